@@ -1,0 +1,6 @@
+
+
+pub mod Spellings
+pub mod Placing
+pub mod Reaching
+pub mod Sets

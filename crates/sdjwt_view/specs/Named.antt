@@ -1,0 +1,13 @@
+-- Where a digest stands in a list.
+use Rattle.std.specs.Prelude.{ℕ, suc, List, [], ◌∷◌, Option, Some, None, option_map, string_bytes, if◌then◌else◌}
+use Rattle.std.specs.Str.{bytes_eq}
+use Rattle.sdjwt_view.specs.Disclosures.{Utf8}
+use Rattle.sdjwt_view.specs.declared.disclosures.Disclosure.{Disclosure}
+
+abbrev pub digest_of : Disclosure → Utf8
+digest_of d = string_bytes d.digest
+
+-- the first place of a text among some
+abbrev pub first_place : Utf8 → List Utf8 → Option ℕ
+first_place x [] = None
+first_place x (y ∷ ys) = if bytes_eq y x then Some 0 else option_map suc (first_place x ys)

@@ -1,0 +1,137 @@
+// Names that an object has twice.
+ghost use Rattle.std.specs.Prelude.{◌≡◌, ◌++◌, OnOk, IfOk, map, not};
+ghost use Rattle.std.specs.List.{list_any};
+ghost use Rattle.std.specs.Option.{is_some};
+ghost use Rattle.serde_json.specs.Find.{get_member};
+ghost use Rattle.serde_json.specs.View.{view, items_view, members_view};
+ghost use Rattle.sdjwt_view.specs.Disclosures.{differ, is_among};
+ghost use Rattle.sdjwt_view.specs.Held.{all_said};
+ghost use Rattle.sdjwt_view.specs.Places.{own_digests, texts_in, disclosed_names, gets_clash, has_clash, have_clash, holds_clash};
+
+use crate::disclosures::Disclosures;
+use crate::places::{entry, own_digests};
+use serde_json::{Map, Value};
+use std::alloc::{AllocError, Global};
+
+// The names that an object gets by disclosures.
+pub fn disclosed_names<'a>(
+    alloc: Global,
+    disclosures: &'a Disclosures,
+    object: &Map<String, Value>,
+) -> Result<Vec<&'a str>, AllocError>
+    ensures { IfOk result
+        (λ v. map (λ s. s.now) v.items ≡ disclosed_names (all_said disclosures.now) (own_digests (members_view object.now.entries))) }
+{
+    let mut names = Vec::new(alloc);
+    if let Some(digests) = own_digests(object) {
+        add_names(disclosures, digests, &mut names)?;
+    }
+    Ok(names)
+}
+
+fn add_names<'a>(
+    disclosures: &'a Disclosures,
+    digests: &Vec<Value>,
+    names: &mut Vec<&'a str>,
+) -> Result<(), AllocError>
+    ensures { OnOk result
+        (map (λ s. s.now) names.new.items ≡ map (λ s. s.now) names.old.items ++ disclosed_names (all_said disclosures.now) (texts_in (items_view digests.now.items))) }
+{
+    for item in digests {
+        if let Some(digest) = item.as_str() {
+            if let Some(disclosure) = disclosures.find(digest) {
+                if let Some(name) = disclosure.name() {
+                    names.push(name)?;
+                }
+            }
+        }
+    }
+    Ok(())
+}
+
+fn is_among(text: &str, texts: &[&str]) -> bool
+    ensures { result ≡ is_among text.now (map (λ s. s.now) texts.now) }
+{
+    for other in texts {
+        if *other == text {
+            return true;
+        }
+    }
+    false
+}
+
+// Over few texts: each is compared with those after it.
+pub fn differ(texts: &[&str]) -> bool
+    ensures { result ≡ differ (map (λ s. s.now) texts.now) }
+{
+    match texts.split_first() {
+        Some((first, rest)) => !is_among(first, rest) && differ(rest),
+        None => true,
+    }
+}
+
+fn has_plain(names: &[&str], object: &Map<String, Value>) -> bool
+    ensures { result ≡ list_any (λ k. is_some (get_member k (members_view object.now.entries))) (map (λ s. s.now) names.now) }
+{
+    for name in names {
+        if entry(object, name).is_some() {
+            return true;
+        }
+    }
+    false
+}
+
+#[cycle(clash)]
+pub fn has_clash(
+    alloc: Global,
+    disclosures: &Disclosures,
+    value: &Value,
+) -> Result<bool, AllocError>
+    ensures { IfOk result (λ b. b ≡ has_clash (all_said disclosures.now) (view value.now)) }
+{
+    match value {
+        Value::Array(list) => have_clash(alloc, disclosures, list),
+        Value::Object(object) => {
+            let names = disclosed_names(alloc, disclosures, object)?;
+            if !differ(&names) || has_plain(&names, object) {
+                return Ok(true);
+            }
+            holds_clash(alloc, disclosures, object)
+        }
+        Value::Null | Value::Bool(_) | Value::Number(_) | Value::String(_) => Ok(false),
+    }
+}
+
+#[cycle(clash)]
+fn have_clash(
+    alloc: Global,
+    disclosures: &Disclosures,
+    list: &Vec<Value>,
+) -> Result<bool, AllocError>
+    ensures { IfOk result
+        (λ b. b ≡ have_clash (all_said disclosures.now) (items_view list.now.items)) }
+{
+    for item in list {
+        if has_clash(alloc, disclosures, item)? {
+            return Ok(true);
+        }
+    }
+    Ok(false)
+}
+
+#[cycle(clash)]
+fn holds_clash(
+    alloc: Global,
+    disclosures: &Disclosures,
+    object: &Map<String, Value>,
+) -> Result<bool, AllocError>
+    ensures { IfOk result
+        (λ b. b ≡ holds_clash (all_said disclosures.now) (members_view object.now.entries)) }
+{
+    for (_, value) in object {
+        if has_clash(alloc, disclosures, value)? {
+            return Ok(true);
+        }
+    }
+    Ok(false)
+}

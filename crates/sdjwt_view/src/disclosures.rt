@@ -1,0 +1,97 @@
+// The disclosures of a credential.
+ghost use Rattle.std.specs.Prelude.{◌≡◌, IfOk, map, option_map};
+ghost use Rattle.std.specs.Option.{IfSome, is_some};
+ghost use Rattle.serde_json.specs.View.{view};
+ghost use Rattle.sdjwt_view.specs.Disclosures.{Utf8, found, differ};
+ghost use Rattle.sdjwt_view.specs.Said.{said};
+ghost use Rattle.sdjwt_view.specs.Named.{digest_of, first_place};
+ghost use Rattle.std.specs.BTreeMap.{get_by_text};
+
+use serde_json::Value;
+use std::alloc::{AllocError, Global};
+use std::collections::BTreeMap;
+
+// What the holder may leave out.
+#[derive(Drop)]
+pub struct Disclosure {
+    digest: String,
+    name: Option<String>,
+    value: Value,
+}
+
+impl Disclosure {
+    pub fn digest(&self) -> &str
+        ensures { result.now ≡ (said self.now).digest }
+    {
+        self.digest.as_str()
+    }
+
+    pub fn name(&self) -> Option<&str>
+        ensures { option_map (λ s. s.now) result ≡ (said self.now).name }
+    {
+        match &self.name {
+            Some(name) => Some(name.as_str()),
+            None => None,
+        }
+    }
+
+    pub fn value(&self) -> &Value
+        ensures { view result.now ≡ (said self.now).value }
+    {
+        &self.value
+    }
+}
+
+// All disclosures in the order of the text, no two with one digest.
+#[derive(Drop)]
+pub struct Disclosures {
+    list: Vec<Disclosure>,
+    order: BTreeMap<String, usize>,
+    ghost indexed: { (x : Utf8) → get_by_text order x ≡ first_place x (map digest_of list.items) },
+}
+
+impl Disclosures {
+    ghost use Rattle.sdjwt_view.specs.Held.{all_said};
+
+    // The disclosure that has a digest.
+    pub fn find(&self, digest: &str) -> Option<&Disclosure>
+        ensures { option_map (λ d. said d.now) result ≡ found digest.now (all_said self.now) }
+    {
+        match self.order.get(digest) {
+            Some(place) => self.list.get(*place),
+            None => None,
+        }
+    }
+
+    // `None` where two have one digest.
+    pub fn new(alloc: Global, list: Vec<Disclosure>) -> Result<Option<Disclosures>, AllocError>
+        ensures list { IfOk result (λ o. IfSome o (λ ds. all_said ds ≡ map said list.items)) }
+        ensures differ { IfOk result
+            (λ o. is_some o ≡ differ (map digest_of list.items)) }
+    {
+        match index(alloc, &list)? {
+            Some(order) => Ok(Some(Disclosures { list, order })),
+            None => Ok(None),
+        }
+    }
+}
+
+// Where each digest stands in the list, or `None` where one stands twice.
+fn index(
+    alloc: Global,
+    list: &Vec<Disclosure>,
+) -> Result<Option<BTreeMap<String, usize>>, AllocError>
+    ensures indexed { IfOk result
+        (λ o. IfSome o (λ order. (x : Utf8) → get_by_text order x ≡ first_place x (map digest_of list.now.items))) }
+    ensures differ { IfOk result
+        (λ o. is_some o ≡ differ (map digest_of list.now.items)) }
+{
+    let mut order = BTreeMap::new(alloc);
+    for i in 0..list.len() {
+        let digest = String::from_str(alloc, list[i].digest())?;
+        if order.insert(digest, i)?.is_some() {
+            return Ok(None);
+        }
+    }
+    Ok(Some(order))
+}

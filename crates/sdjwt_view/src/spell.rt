@@ -1,0 +1,246 @@
+// The claim that a value spells, with each disclosure in its place.
+ghost use Rattle.std.specs.Prelude.{◌≡◌, ◌∷◌, [], IfOk, OnOk, Some, None, false, option_map, map, if◌then◌else◌};
+ghost use Rattle.serde_json.specs.View.{view, items_view, members_view, number_view};
+ghost use Rattle.claim_tree.specs.Plain.{plain_number};
+ghost use Rattle.sdjwt_view.specs.Disclosures.{is_among, found};
+ghost use Rattle.sdjwt_view.specs.Held.{all_said};
+ghost use Rattle.sdjwt_view.specs.Said.{said};
+ghost use Rattle.sdjwt_view.specs.Nodes.{tree_of, part_of, named_of, parts_of};
+ghost use Rattle.sdjwt_view.specs.Places.{own_digests, texts_in};
+ghost use Rattle.sdjwt_view.specs.Spelling.{put_member, left_out, spelled, spelled_list, spelled_record, spelled_element, spelled_members, plain_members, with_disclosure, with_disclosures};
+
+use crate::disclosures::Disclosures;
+use crate::node::{Element, Member, Node, Spelled};
+use crate::places::{has_placeholder, own_digests, placeholder};
+use serde_json::{Map, Number, Value};
+use std::alloc::{AllocError, Global};
+
+// `None` where the value has more than so many lists and records inside one Other.
+#[cycle(spell)]
+pub fn spell(
+    alloc: Global,
+    levels: usize,
+    disclosures: &Disclosures,
+    value: &Value,
+) -> Result<Option<Node>, AllocError>
+    ensures { IfOk result
+        (λ o. option_map tree_of o ≡ spelled levels (all_said disclosures.now) (view value.now)) }
+{
+    match value {
+        Value::Null => Ok(Some(Node::Null)),
+        Value::Bool(truth) => Ok(Some(Node::Truth(*truth))),
+        Value::Number(number) => Ok(Some(number_node(number))),
+        Value::String(text) => Ok(Some(Node::Text(text.clone()?))),
+        Value::Array(list) => {
+            if levels == 0 {
+                return Ok(None);
+            }
+            spell_list(alloc, levels - 1, disclosures, list)
+        }
+        Value::Object(object) => {
+            if levels == 0 {
+                return Ok(None);
+            }
+            spell_record(alloc, levels - 1, disclosures, object)
+        }
+    }
+}
+
+#[cycle(spell)]
+fn spell_list(
+    alloc: Global,
+    levels: usize,
+    disclosures: &Disclosures,
+    list: &Vec<Value>,
+) -> Result<Option<Node>, AllocError>
+    ensures { IfOk result
+        (λ o. option_map tree_of o ≡ spelled_list (spelled levels (all_said disclosures.now)) (all_said disclosures.now) (items_view list.now.items)) }
+{
+    let mut elements = Vec::new(alloc);
+    for item in list {
+        match spell_element(alloc, levels, disclosures, item)? {
+            Spelled::Found(element) => elements.push(element)?,
+            Spelled::Nothing => {}
+            Spelled::Refused => return Ok(None),
+        }
+    }
+    Ok(Some(Node::List(has_placeholder(list), elements)))
+}
+
+#[cycle(spell)]
+fn spell_element(
+    alloc: Global,
+    levels: usize,
+    disclosures: &Disclosures,
+    item: &Value,
+) -> Result<Spelled, AllocError>
+    ensures { IfOk result
+        (λ s. parts_of s ≡ spelled_element (spelled levels (all_said disclosures.now)) (all_said disclosures.now) (view item.now)) }
+{
+    let Some(digest) = placeholder(item) else {
+        let node = spell(alloc, levels, disclosures, item)?;
+        return Ok(part(false, node));
+    };
+    let Some(disclosure) = disclosures.find(digest) else {
+        return Ok(Spelled::Nothing);
+    };
+    if disclosure.name().is_some() {
+        return Ok(Spelled::Refused);
+    }
+    let node = spell(alloc, levels, disclosures, disclosure.value())?;
+    Ok(part(true, node))
+}
+
+#[cycle(spell)]
+fn spell_record(
+    alloc: Global,
+    levels: usize,
+    disclosures: &Disclosures,
+    object: &Map<String, Value>,
+) -> Result<Option<Node>, AllocError>
+    ensures { IfOk result
+        (λ o. option_map tree_of o ≡ spelled_record false (spelled levels (all_said disclosures.now)) (all_said disclosures.now) (members_view object.now.entries)) }
+{
+    match spell_members(alloc, levels, disclosures, false, object)? {
+        Some(members) => Ok(Some(Node::Record(members))),
+        None => Ok(None),
+    }
+}
+
+#[cycle(spell)]
+pub fn spell_members(
+    alloc: Global,
+    levels: usize,
+    disclosures: &Disclosures,
+    is_payload: bool,
+    object: &Map<String, Value>,
+) -> Result<Option<Vec<Member>>, AllocError>
+    ensures { IfOk result
+        (λ o. option_map (λ v. map named_of v.items) o ≡ spelled_members is_payload (spelled levels (all_said disclosures.now)) (all_said disclosures.now) (members_view object.now.entries)) }
+{
+    let Some(members) = spell_plain(alloc, levels, disclosures, is_payload, object)? else {
+        return Ok(None);
+    };
+    let Some(digests) = own_digests(object) else {
+        return Ok(Some(members));
+    };
+    spell_disclosed(alloc, levels, disclosures, digests, members)
+}
+
+#[cycle(spell)]
+fn spell_plain(
+    alloc: Global,
+    levels: usize,
+    disclosures: &Disclosures,
+    is_payload: bool,
+    object: &Map<String, Value>,
+) -> Result<Option<Vec<Member>>, AllocError>
+    ensures { IfOk result
+        (λ o. option_map (λ v. map named_of v.items) o ≡ plain_members is_payload (spelled levels (all_said disclosures.now)) (members_view object.now.entries)) }
+{
+    let mut members = Vec::new(alloc);
+    for (name, value) in object {
+        if !is_left_out(is_payload, name.as_str()) {
+            let Some(node) = spell(alloc, levels, disclosures, value)? else {
+                return Ok(None);
+            };
+            members.push(Member {
+                name: name.clone()?,
+                held: false,
+                node,
+            })?;
+        }
+    }
+    Ok(Some(members))
+}
+
+#[cycle(spell)]
+fn spell_disclosed(
+    alloc: Global,
+    levels: usize,
+    disclosures: &Disclosures,
+    digests: &Vec<Value>,
+    plain: Vec<Member>,
+) -> Result<Option<Vec<Member>>, AllocError>
+    ensures { IfOk result
+        (λ o. option_map (λ v. map named_of v.items) o ≡ with_disclosures (spelled levels (all_said disclosures.now)) (all_said disclosures.now) (texts_in (items_view digests.now.items)) (map named_of plain.items)) }
+{
+    let mut members = plain;
+    for item in digests {
+        if let Some(digest) = item.as_str() {
+            if !put_disclosed(alloc, levels, disclosures, digest, &mut members)? {
+                return Ok(None);
+            }
+        }
+    }
+    Ok(Some(members))
+}
+
+#[cycle(spell)]
+fn put_disclosed(
+    alloc: Global,
+    levels: usize,
+    disclosures: &Disclosures,
+    digest: &str,
+    members: &mut Vec<Member>,
+) -> Result<bool, AllocError>
+    ensures { IfOk result
+        (λ done. with_disclosure (spelled levels (all_said disclosures.now)) (found digest.now (all_said disclosures.now)) (map named_of members.old.items) ≡ (if done then Some (map named_of members.new.items) else None)) }
+{
+    let Some(disclosure) = disclosures.find(digest) else {
+        return Ok(true);
+    };
+    let Some(name) = disclosure.name() else {
+        return Ok(false);
+    };
+    let Some(node) = spell(alloc, levels, disclosures, disclosure.value())? else {
+        return Ok(false);
+    };
+    let name = String::from_str(alloc, name)?;
+    put_member(
+        members,
+        Member {
+            name,
+            held: true,
+            node,
+        },
+    )?;
+    Ok(true)
+}
+
+// Before the first member whose name is greater.
+fn put_member(members: &mut Vec<Member>, member: Member) -> Result<(), AllocError>
+    ensures { OnOk result
+        (map named_of members.new.items ≡ put_member (named_of member) (map named_of members.old.items)) }
+{
+    let mut place = 0;
+    while place < members.len() && !(member.name < members[place].name) {
+        place += 1;
+    }
+    members.insert(place, member)?;
+    Ok(())
+}
+
+fn part(held: bool, node: Option<Node>) -> Spelled
+    ensures { parts_of result ≡ option_map (λ t. (held, t) ∷ []) (option_map tree_of node) }
+{
+    match node {
+        Some(node) => Spelled::Found(Element { held, node }),
+        None => Spelled::Refused,
+    }
+}
+
+fn number_node(number: &Number) -> Node
+    ensures { tree_of result ≡ plain_number (number_view number.now) }
+{
+    match number.as_i128() {
+        Some(whole) => Node::Whole(whole),
+        None => Node::Other,
+    }
+}
+
+fn is_left_out(is_payload: bool, name: &str) -> bool
+    ensures { result ≡ is_among name.now (left_out is_payload) }
+{
+    "_sd" == name || (is_payload && "_sd_alg" == name)
+}
