@@ -7,6 +7,8 @@
 mod base16;
 mod error;
 mod hash;
+#[cfg(test)]
+mod tests;
 mod url64;
 
 pub use base16::{from_hex, to_hex};
