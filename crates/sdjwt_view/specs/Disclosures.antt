@@ -1,8 +1,14 @@
--- Disclosures: what the holder may leave out, each named by its digest.
+-- Disclosures: what a holder may leave out of an SD-JWT, each named by its digest (RFC 9901, sections 4.2.1 to 4.2.3).
 use Rattle.std.specs.Prelude.{ℕ, Bool, true, ◌&&◌, not, List, [], ◌∷◌, Option, Some, None, option_map, option_and_then, if◌then◌else◌}
 use Rattle.std.specs.List.{list_any}
 use Rattle.std.specs.Str.{bytes_eq}
-use Rattle.serde_json.specs.Data.{Data, string, array, Items, no_items, item}
+use Rattle.serde_json.specs.Data.{Data}
+use Rattle.serde_json.specs.Find.{as_str}
+use Rattle.json_forms.specs.Look.{elements_of, is_text}
+use Rattle.json_forms.specs.Text.{json_of}
+use Rattle.base_forms.specs.Url64.{url64_of, url64_bytes}
+use Rattle.base_forms.specs.Hash.{digest_by}
+use Rattle.base_forms.specs.declared.hash.HashName.{HashName}
 
 -- a text, by its bytes
 abbrev pub Utf8 : Type 0
@@ -17,22 +23,34 @@ abbrev pub differ : List Utf8 → Bool
 differ [] = true
 differ (x ∷ xs) = not (is_among x xs) && differ xs
 
--- A disclosure of three has the name of a member, and one of two is an element.
+-- A disclosure with a name is that of an object's member, and one without is that of a list's element.
 pub record Disclosed : Type 0 where
   pub digest : Utf8
   pub name : Option Utf8
   pub value : Data
 
--- the name and the value behind the salt
-abbrev pub after_salt : Items → Option (Option Utf8 × Data)
-after_salt (item v no_items) = Some (None, v)
-after_salt (item (string k) (item v no_items)) = Some (Some k, v)
-after_salt _ = None
-
--- `[salt, name, value]` or `[salt, value]`
-abbrev pub salted : Data → Option (Option Utf8 × Data)
-salted (array (item (string salt) rest)) = after_salt rest
+-- the name and the value of `[salt, name, value]`, or the value of `[salt, value]`; salt and name are texts
+abbrev pub salted : List Data → Option (Option Utf8 × Data)
+salted (salt ∷ value ∷ []) = if is_text salt then Some (None, value) else None
+salted (salt ∷ name ∷ value ∷ []) = if is_text salt then option_map (λ k. (Some k, value)) (as_str name) else None
 salted _ = None
+
+-- the JSON value whose base64url a text is
+abbrev pub json_in : Utf8 → Option Data
+json_in text = option_and_then json_of (url64_bytes text)
+
+-- base64url of the hash over the ASCII of the disclosure's text, as it stands in the SD-JWT
+abbrev pub digest_of : HashName → Utf8 → Utf8
+digest_of hash text = url64_of (digest_by hash text)
+
+-- what a disclosure's text says, or none where it is not of the form
+abbrev pub disclosed : HashName → Utf8 → Option Disclosed
+disclosed hash text = option_map (λ p. record { digest = digest_of hash text; name = p.0; value = p.1 }) (option_and_then (λ d. salted (elements_of d)) (json_in text))
+
+-- what all the texts say, or none where one is not of the form
+abbrev pub all_disclosed : HashName → List Utf8 → Option (List Disclosed)
+all_disclosed hash [] = Some []
+all_disclosed hash (t ∷ ts) = option_and_then (λ d. option_map (λ ds. d ∷ ds) (all_disclosed hash ts)) (disclosed hash t)
 
 -- the first disclosure that has a digest
 abbrev pub found : Utf8 → List Disclosed → Option Disclosed
