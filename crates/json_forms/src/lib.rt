@@ -1,9 +1,11 @@
 //! Looking into JSON values without taking memory, and one JSON text from bytes.
 #![tactic(auto)]
 
+mod floats;
 mod look;
 mod text;
 
+pub use floats::has_float;
 pub use look::{
     are_objects, are_text_lists, are_texts, elements, elements_at, is_text_list, text_at,
 };

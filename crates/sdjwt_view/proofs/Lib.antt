@@ -1,6 +1,8 @@
-
-
 pub mod Spellings
-pub mod Placing
+pub mod FirstPlaces
 pub mod Reaching
 pub mod Sets
+pub mod Claims
+pub mod ValueClaims
+pub mod NodeParts
+pub mod HolderKeys

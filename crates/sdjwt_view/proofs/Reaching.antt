@@ -11,7 +11,7 @@ use Rattle.serde_json.proofs.Views.{view-Object}
 use Rattle.sdjwt_view.specs.Disclosures.{Utf8, Disclosed, differ}
 use Rattle.sdjwt_view.specs.Held.{place_of}
 use Rattle.sdjwt_view.specs.Places.{digest_at, digests_in, places_in, reached, reached_by, own_digests, disclosed_names, gets_clash, has_clash, holds_clash}
-use Rattle.sdjwt_view.specs.declared.rules.Place.{Place}
+use Rattle.sdjwt_view.specs.declared.places.Place.{Place}
 
 one_more : (n m : ℕ) (ls : List Disclosed) (d : Data) → n ≡ suc m → reached n ls d ≡ digests_in d ++ reached_by (reached m ls) ls (digests_in d)
 one_more n m ls d e = rw e refl

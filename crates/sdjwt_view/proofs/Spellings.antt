@@ -29,7 +29,7 @@ spelled-record n ls v m is h =
     let e : n ≡ suc (n - 1) = omega arith in
     sym (ap (λ w. spelled n ls (view w)) is ∙ ap (spelled n ls) (view-Object m) ∙ one_more_record n (n - 1) ls (members_view m.entries) e)
 
-tree_of-List : (loose : Bool) (v : Vec Element Global) → tree_of (ListNode loose v) ≡ ListOf loose (elements_of (map part_of v.items))
+pub tree_of-List : (loose : Bool) (v : Vec Element Global) → tree_of (ListNode loose v) ≡ ListOf loose (elements_of (map part_of v.items))
 tree_of-List loose v = search (rules, the_lemmas)
 
 pub list_done : (loose : Bool) (v : Vec Element Global) (inner : Data → Option Tree) (ls : List Disclosed) (items : List Value) (i : ℕ)

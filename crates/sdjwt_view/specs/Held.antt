@@ -2,8 +2,8 @@
 use Rattle.std.specs.Prelude.{List, map}
 use Rattle.sdjwt_view.specs.Disclosures.{Disclosed}
 use Rattle.sdjwt_view.specs.Places.{Place as TheirPlace, in_object, in_list}
-use Rattle.sdjwt_view.specs.declared.rules.Place.{Place}
-use Rattle.sdjwt_view.specs.declared.rules.Place.TheVariants.{InObject, InList}
+use Rattle.sdjwt_view.specs.declared.places.Place.{Place}
+use Rattle.sdjwt_view.specs.declared.places.Place.TheVariants.{InObject, InList}
 use Rattle.sdjwt_view.specs.Said.{said}
 use Rattle.sdjwt_view.specs.declared.disclosures.Disclosures.{Disclosures}
 

@@ -1,11 +1,11 @@
 pub mod Disclosures
-
 pub mod Places
 pub mod Spelling
-
+pub mod Placing
+pub mod Facts
 pub mod Nodes
 pub mod Said
 pub mod Named
 pub mod Held
 pub mod Prefixed
-
+pub mod Placed

@@ -2,10 +2,10 @@
 use Rattle.std.specs.Prelude.{ℕ, suc, List, [], ◌∷◌, Option, Some, None, option_map, string_bytes, if◌then◌else◌}
 use Rattle.std.specs.Str.{bytes_eq}
 use Rattle.sdjwt_view.specs.Disclosures.{Utf8}
-use Rattle.sdjwt_view.specs.declared.disclosures.Disclosure.{Disclosure}
+use Rattle.sdjwt_view.specs.declared.disclosure.Disclosure.{Disclosure}
 
-abbrev pub digest_of : Disclosure → Utf8
-digest_of d = string_bytes d.digest
+abbrev pub own_digest : Disclosure → Utf8
+own_digest d = string_bytes d.digest
 
 -- the first place of a text among some
 abbrev pub first_place : Utf8 → List Utf8 → Option ℕ

@@ -6,7 +6,7 @@ use Rattle.sdjwt_view.specs.declared.node.Node.{Node, fold-Node}
 use Rattle.sdjwt_view.specs.declared.node.Element.{Element}
 use Rattle.sdjwt_view.specs.declared.node.Member.{Member}
 use Rattle.sdjwt_view.specs.declared.node.Spelled.{Spelled}
-use Rattle.sdjwt_view.specs.declared.node.Spelled.TheVariants.{Found, Nothing, Refused}
+use Rattle.sdjwt_view.specs.declared.node.Spelled.TheVariants.{Found, Nothing, TooDeep}
 use Rattle.sdjwt_view.specs.declared.node.Node.TheOpen.{Node-F, Element-F, Member-F}
 
 abbrev pub node_step : Node-F Tree Part Named → Tree
@@ -37,4 +37,4 @@ named_of m = (string_bytes m.name, m.held, tree_of m.node)
 abbrev pub parts_of : Spelled → Option (List Part)
 parts_of (Found e) = Some (part_of e ∷ [])
 parts_of Nothing = Some []
-parts_of Refused = None
+parts_of TooDeep = None

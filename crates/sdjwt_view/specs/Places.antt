@@ -1,4 +1,4 @@
--- The places in JSON values where digests stand.
+-- The places in JSON values where digests of disclosures stand, and what may stand there (RFC 9901, sections 4.2.4 and 7.1).
 use Rattle.std.specs.Prelude.{ℕ, ◌==◌, zero, suc, Bool, true, false, ◌||◌, ◌&&◌, not, List, [], ◌∷◌, ◌++◌, length, map, codes, Option, Some, None, option_and_then, if◌then◌else◌}
 use Rattle.std.specs.List.{list_any, list_all}
 use Rattle.std.specs.Option.{is_some}
@@ -60,6 +60,29 @@ abbrev mutual
   has_sound no_members = true
   has_sound (member k d ms) = (if bytes_eq k sd then is_list_of_texts d else not (bytes_eq k dots) && is_sound d) && has_sound ms
 
+-- some member of the value, or of one inside it, is named `_sd` or `...`
+abbrev mutual
+  pub has_mark : Data → Bool
+  has_mark (array ds) = have_mark ds
+  has_mark (object ms) = holds_mark ms
+  has_mark _ = false
+
+  pub have_mark : Items → Bool
+  have_mark no_items = false
+  have_mark (item d ds) = has_mark d || have_mark ds
+
+  pub holds_mark : Members → Bool
+  holds_mark no_members = false
+  holds_mark (member k d ms) = (bytes_eq k sd || (bytes_eq k dots || has_mark d)) || holds_mark ms
+
+-- the same of the members of the payload, but for its own `_sd`
+abbrev pub holds_inner_mark : Members → Bool
+holds_inner_mark no_members = false
+holds_inner_mark (member k d ms) = (not (bytes_eq k sd) && (bytes_eq k dots || has_mark d)) || holds_inner_mark ms
+
+abbrev pub has_inner_mark : Data → Bool
+has_inner_mark d = elim (as_object d) [ None ↦ false | Some ms ↦ holds_inner_mark ms ]
+
 -- ---- all places within a value
 
 -- A digest stands in the `_sd` of an object, or in a placeholder among a list's elements.
@@ -108,9 +131,13 @@ abbrev pub reached : ℕ → List Disclosed → Data → List Utf8
 reached zero ls d = []
 reached (suc n) ls d = digests_in d ++ reached_by (reached n ls) ls (digests_in d)
 
--- Each disclosure has a digest of its own, which stands in a place that is reached from the payload.
+-- the digest of each disclosure stands in a place that is reached from the payload
+abbrev pub are_reached : Data → List Disclosed → Bool
+are_reached payload ls = list_all (λ l. is_among l.digest (reached (suc (length ls)) ls payload)) ls
+
+-- each disclosure has a digest of its own, which is reached
 abbrev pub are_placed : Data → List Disclosed → Bool
-are_placed payload ls = differ (map (λ l. l.digest) ls) && list_all (λ l. is_among l.digest (reached (suc (length ls)) ls payload)) ls
+are_placed payload ls = differ (map (λ l. l.digest) ls) && are_reached payload ls
 
 -- the place asks for a disclosure of the other length
 abbrev pub is_mismatch : List Disclosed → Place → Bool

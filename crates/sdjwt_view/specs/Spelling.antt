@@ -1,9 +1,10 @@
--- The claim that a JSON value spells once each disclosure stands in its place.
+-- The claim tree that a JSON value spells once each disclosure stands in its place (RFC 9901, section 7.1).
 use Rattle.std.specs.Prelude.{ℕ, zero, suc, Bool, true, false, ◌||◌, List, [], ◌∷◌, ◌++◌, codes, Option, Some, None, option_map, option_and_then, if◌then◌else◌}
-use Rattle.std.specs.Ordering.{nat_cmp, is_lt}
+use Rattle.std.specs.Ordering.{nat_cmp, match_ordering}
 use Rattle.std.specs.Cmp.Lexicographic.{slice_cmp}
 use Rattle.serde_json.specs.Data.{Data, null, boolean, number, string, array, object, Items, no_items, item, Members as Fields, no_members as no_fields, member as field}
 use Rattle.claim_tree.specs.Tree.{Tree, Text, Truth, Null, ListOf, RecordOf, Elements, no_elements, element, Members, no_members, member}
+use Rattle.serde_json.specs.Find.{as_object}
 use Rattle.claim_tree.specs.Plain.{plain_number}
 use Rattle.sdjwt_view.specs.Disclosures.{Utf8, is_among, Disclosed, found}
 use Rattle.sdjwt_view.specs.Places.{sd, placeholder, is_placeholder, own_digests}
@@ -26,10 +27,10 @@ abbrev pub members_of : List Named → Members
 members_of [] = no_members
 members_of (m ∷ ms) = member m.0 m.1 m.2 (members_of ms)
 
--- the members with one more, in its place by the bytes of its name
+-- the members with one more, in its place by the bytes of its name; a name that is there already stays as it is
 abbrev pub put_member : Named → List Named → List Named
 put_member m [] = m ∷ []
-put_member m (l ∷ ls) = if is_lt (slice_cmp nat_cmp m.0 l.0) then m ∷ l ∷ ls else l ∷ put_member m ls
+put_member m (l ∷ ls) = match_ordering (slice_cmp nat_cmp m.0 l.0) (m ∷ l ∷ ls) (l ∷ ls) (l ∷ put_member m ls)
 
 -- ---- what a list spells
 
@@ -37,10 +38,10 @@ abbrev pub has_placeholder : Items → Bool
 has_placeholder no_items = false
 has_placeholder (item d ds) = is_placeholder d || has_placeholder ds
 
--- A disclosure of two gives an element that is held, and one of three has no place here.
+-- A disclosure without a name gives an element that is held; one with a name gives none.
 abbrev pub disclosed_element : (Data → Option Tree) → Option Disclosed → Option (List Part)
 disclosed_element inner None = Some []
-disclosed_element inner (Some l) = elim l.name [ None ↦ option_map (λ t. (true, t) ∷ []) (inner l.value) | Some k ↦ None ]
+disclosed_element inner (Some l) = elim l.name [ None ↦ option_map (λ t. (true, t) ∷ []) (inner l.value) | Some k ↦ Some [] ]
 
 -- A plain element is not held. A placeholder gives the element of its disclosure, where it has one.
 abbrev pub spelled_element : (Data → Option Tree) → List Disclosed → Data → Option (List Part)
@@ -70,10 +71,10 @@ abbrev pub plain_members : Bool → (Data → Option Tree) → Fields → Option
 plain_members is_payload inner no_fields = Some []
 plain_members is_payload inner (field k d ms) = if is_among k (left_out is_payload) then plain_members is_payload inner ms else option_and_then (λ t. option_map (λ ns. (k, false, t) ∷ ns) (plain_members is_payload inner ms)) (inner d)
 
--- A disclosure of three gives a member that is held, and one of two has no place here.
+-- A disclosure with a name gives a member that is held; one without gives none.
 abbrev pub with_disclosure : (Data → Option Tree) → Option Disclosed → List Named → Option (List Named)
 with_disclosure inner None ms = Some ms
-with_disclosure inner (Some l) ms = elim l.name [ None ↦ None | Some k ↦ option_map (λ t. put_member (k, true, t) ms) (inner l.value) ]
+with_disclosure inner (Some l) ms = elim l.name [ None ↦ Some ms | Some k ↦ option_map (λ t. put_member (k, true, t) ms) (inner l.value) ]
 
 abbrev pub with_disclosures : (Data → Option Tree) → List Disclosed → List Utf8 → List Named → Option (List Named)
 with_disclosures inner ls [] ms = Some ms
@@ -98,6 +99,6 @@ spelled zero ls (object ms) = None
 spelled (suc n) ls (array ds) = spelled_list (spelled n ls) ls ds
 spelled (suc n) ls (object ms) = spelled_record false (spelled n ls) ls ms
 
--- the payload is one of at most 64 levels
-unfoldable pub spelled_payload : List Disclosed → Fields → Option Tree
-spelled_payload ls ms = spelled_record true (spelled 63 ls) ls ms
+-- the members that the payload of a credential spells, or none where it has more than 64 lists and records inside one another, itself among them
+unfoldable pub spelled_payload : List Disclosed → Data → Option (List Named)
+spelled_payload ls d = option_and_then (λ ms. spelled_members true (spelled 63 ls) ls ms) (as_object d)

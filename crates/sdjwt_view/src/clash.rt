@@ -1,19 +1,19 @@
 // Names that an object has twice.
-ghost use Rattle.std.specs.Prelude.{◌≡◌, ◌++◌, OnOk, IfOk, map, not};
+ghost use Rattle.std.specs.Prelude.{◌≡◌, ◌++◌, OnOk, IfOk, map};
 ghost use Rattle.std.specs.List.{list_any};
 ghost use Rattle.std.specs.Option.{is_some};
 ghost use Rattle.serde_json.specs.Find.{get_member};
 ghost use Rattle.serde_json.specs.View.{view, items_view, members_view};
-ghost use Rattle.sdjwt_view.specs.Disclosures.{differ, is_among};
 ghost use Rattle.sdjwt_view.specs.Held.{all_said};
 ghost use Rattle.sdjwt_view.specs.Places.{own_digests, texts_in, disclosed_names, gets_clash, has_clash, have_clash, holds_clash};
 
 use crate::disclosures::Disclosures;
+use crate::distinct::are_distinct;
 use crate::places::{entry, own_digests};
 use serde_json::{Map, Value};
 use std::alloc::{AllocError, Global};
 
-// The names that an object gets by disclosures.
+/// The names that an object gets by disclosures.
 pub fn disclosed_names<'a>(
     alloc: Global,
     disclosures: &'a Disclosures,
@@ -49,27 +49,6 @@ fn add_names<'a>(
     Ok(())
 }
 
-fn is_among(text: &str, texts: &[&str]) -> bool
-    ensures { result ≡ is_among text.now (map (λ s. s.now) texts.now) }
-{
-    for other in texts {
-        if *other == text {
-            return true;
-        }
-    }
-    false
-}
-
-// Over few texts: each is compared with those after it.
-pub fn differ(texts: &[&str]) -> bool
-    ensures { result ≡ differ (map (λ s. s.now) texts.now) }
-{
-    match texts.split_first() {
-        Some((first, rest)) => !is_among(first, rest) && differ(rest),
-        None => true,
-    }
-}
-
 fn has_plain(names: &[&str], object: &Map<String, Value>) -> bool
     ensures { result ≡ list_any (λ k. is_some (get_member k (members_view object.now.entries))) (map (λ s. s.now) names.now) }
 {
@@ -81,6 +60,7 @@ fn has_plain(names: &[&str], object: &Map<String, Value>) -> bool
     false
 }
 
+/// Whether some object within the value gets a name that it has.
 #[cycle(clash)]
 pub fn has_clash(
     alloc: Global,
@@ -93,7 +73,7 @@ pub fn has_clash(
         Value::Array(list) => have_clash(alloc, disclosures, list),
         Value::Object(object) => {
             let names = disclosed_names(alloc, disclosures, object)?;
-            if !differ(&names) || has_plain(&names, object) {
+            if !are_distinct(alloc, &names)? || has_plain(&names, object) {
                 return Ok(true);
             }
             holds_clash(alloc, disclosures, object)

@@ -4,56 +4,25 @@ ghost use Rattle.std.specs.Option.{IfSome, is_some};
 ghost use Rattle.serde_json.specs.View.{view};
 ghost use Rattle.sdjwt_view.specs.Disclosures.{Utf8, found, differ};
 ghost use Rattle.sdjwt_view.specs.Said.{said};
-ghost use Rattle.sdjwt_view.specs.Named.{digest_of, first_place};
+ghost use Rattle.sdjwt_view.specs.Named.{own_digest, first_place};
 ghost use Rattle.std.specs.BTreeMap.{get_by_text};
 
-use serde_json::Value;
+use crate::disclosure::Disclosure;
 use std::alloc::{AllocError, Global};
 use std::collections::BTreeMap;
 
-// What the holder may leave out.
-#[derive(Drop)]
-pub struct Disclosure {
-    digest: String,
-    name: Option<String>,
-    value: Value,
-}
-
-impl Disclosure {
-    pub fn digest(&self) -> &str
-        ensures { result.now ≡ (said self.now).digest }
-    {
-        self.digest.as_str()
-    }
-
-    pub fn name(&self) -> Option<&str>
-        ensures { option_map (λ s. s.now) result ≡ (said self.now).name }
-    {
-        match &self.name {
-            Some(name) => Some(name.as_str()),
-            None => None,
-        }
-    }
-
-    pub fn value(&self) -> &Value
-        ensures { view result.now ≡ (said self.now).value }
-    {
-        &self.value
-    }
-}
-
-// All disclosures in the order of the text, no two with one digest.
+/// All disclosures in the order of the text, no two with one digest.
 #[derive(Drop)]
 pub struct Disclosures {
     list: Vec<Disclosure>,
     order: BTreeMap<String, usize>,
-    ghost indexed: { (x : Utf8) → get_by_text order x ≡ first_place x (map digest_of list.items) },
+    ghost indexed: { (x : Utf8) → get_by_text order x ≡ first_place x (map own_digest list.items) },
 }
 
 impl Disclosures {
     ghost use Rattle.sdjwt_view.specs.Held.{all_said};
 
-    // The disclosure that has a digest.
+    /// The disclosure that has a digest.
     pub fn find(&self, digest: &str) -> Option<&Disclosure>
         ensures { option_map (λ d. said d.now) result ≡ found digest.now (all_said self.now) }
     {
@@ -63,11 +32,18 @@ impl Disclosures {
         }
     }
 
-    // `None` where two have one digest.
+    /// The disclosures in the order of the text.
+    pub fn list(&self) -> &[Disclosure]
+        ensures { map said result.now ≡ all_said self.now }
+    {
+        &self.list
+    }
+
+    /// None where two have one digest.
     pub fn new(alloc: Global, list: Vec<Disclosure>) -> Result<Option<Disclosures>, AllocError>
         ensures list { IfOk result (λ o. IfSome o (λ ds. all_said ds ≡ map said list.items)) }
         ensures differ { IfOk result
-            (λ o. is_some o ≡ differ (map digest_of list.items)) }
+            (λ o. is_some o ≡ differ (map own_digest list.items)) }
     {
         match index(alloc, &list)? {
             Some(order) => Ok(Some(Disclosures { list, order })),
@@ -82,9 +58,9 @@ fn index(
     list: &Vec<Disclosure>,
 ) -> Result<Option<BTreeMap<String, usize>>, AllocError>
     ensures indexed { IfOk result
-        (λ o. IfSome o (λ order. (x : Utf8) → get_by_text order x ≡ first_place x (map digest_of list.now.items))) }
+        (λ o. IfSome o (λ order. (x : Utf8) → get_by_text order x ≡ first_place x (map own_digest list.now.items))) }
     ensures differ { IfOk result
-        (λ o. is_some o ≡ differ (map digest_of list.now.items)) }
+        (λ o. is_some o ≡ differ (map own_digest list.now.items)) }
 {
     let mut order = BTreeMap::new(alloc);
     for i in 0..list.len() {

@@ -1,11 +1,19 @@
-// SD-JWT credentials.
+//! SD-JWT VC credentials as claim trees that are looked at in place (RFC 9901).
 #![tactic(auto)]
 
-
 mod clash;
-mod distinct;
+mod disclosure;
 mod disclosures;
+mod distinct;
+mod error;
+mod facts;
+mod marks;
 mod node;
 mod places;
-mod rules;
+mod placing;
+mod reach;
 mod spell;
+mod view;
+
+pub use error::{Error, NoMemory};
+pub use view::SdNode;

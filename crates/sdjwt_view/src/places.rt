@@ -1,12 +1,14 @@
 // Where digests stand.
-ghost use Rattle.std.specs.Prelude.{◌≡◌, ◌==◌, option_map, option_and_then};
+ghost use Rattle.std.specs.Prelude.{◌≡◌, ◌==◌, ◌++◌, OnOk, map, option_map, option_and_then};
 ghost use Rattle.serde_json.specs.Events.{members_len};
 ghost use Rattle.serde_json.specs.View.{view, items_view, members_view};
 ghost use Rattle.serde_json.specs.Find.{as_array, get_member};
-ghost use Rattle.sdjwt_view.specs.Places.{sd, placeholder};
+ghost use Rattle.sdjwt_view.specs.Held.{place_of};
+ghost use Rattle.sdjwt_view.specs.Places.{sd, placeholder, digest_at, places_in, places_among, places_under, listed, in_object};
 ghost use Rattle.sdjwt_view.specs.Spelling.{has_placeholder};
 
 use serde_json::{Map, Value};
+use std::alloc::AllocError;
 
 fn is_alone(map: &Map<String, Value>) -> bool
     ensures { result ≡ (members_len (members_view map.now.entries) == 1) }
@@ -55,4 +57,82 @@ pub fn entry<'a>(object: &'a Map<String, Value>, name: &str) -> Option<&'a Value
     ensures { option_map (λ v. view v.now) result ≡ get_member name.now (members_view object.now.entries) }
 {
     object.get(name)
+}
+
+/// Where a digest stands.
+#[derive(Clone, Copy, Drop)]
+pub enum Place<'a> {
+    InObject(&'a str),
+    InList(&'a str),
+}
+
+/// Adds the places within a value.
+#[cycle(gather)]
+pub fn gather<'a>(value: &'a Value, places: &mut Vec<Place<'a>>) -> Result<(), AllocError>
+    ensures { OnOk result
+        (map place_of places.new.items ≡ map place_of places.old.items ++ places_in (view value.now)) }
+{
+    match value {
+        Value::Array(list) => gather_list(list, places),
+        Value::Object(object) => gather_object(object, places),
+        Value::Null | Value::Bool(_) | Value::Number(_) | Value::String(_) => Ok(()),
+    }
+}
+
+#[cycle(gather)]
+fn gather_list<'a>(list: &'a Vec<Value>, places: &mut Vec<Place<'a>>) -> Result<(), AllocError>
+    ensures { OnOk result
+        (map place_of places.new.items ≡ map place_of places.old.items ++ places_among (items_view list.now.items)) }
+{
+    for item in list {
+        match placeholder(item) {
+            Some(digest) => places.push(Place::InList(digest))?,
+            None => gather(item, places)?,
+        }
+    }
+    Ok(())
+}
+
+#[cycle(gather)]
+fn gather_object<'a>(
+    object: &'a Map<String, Value>,
+    places: &mut Vec<Place<'a>>,
+) -> Result<(), AllocError>
+    ensures { OnOk result
+        (map place_of places.new.items ≡ map place_of places.old.items ++ places_under (members_view object.now.entries)) }
+{
+    for (name, value) in object {
+        if name.as_str() == "_sd" {
+            gather_listed(value, places)?;
+        } else {
+            gather(value, places)?;
+        }
+    }
+    Ok(())
+}
+
+fn gather_listed<'a>(value: &'a Value, places: &mut Vec<Place<'a>>) -> Result<(), AllocError>
+    ensures { OnOk result
+        (map place_of places.new.items ≡ map place_of places.old.items ++ map in_object (listed (view value.now))) }
+{
+    let Some(list) = value.as_array() else {
+        return Ok(());
+    };
+    for item in list {
+        if let Some(digest) = item.as_str() {
+            places.push(Place::InObject(digest))?;
+        }
+    }
+    Ok(())
+}
+
+impl<'a> Place<'a> {
+    pub fn digest(self) -> &'a str
+        ensures { result.now ≡ digest_at (place_of self.entry) }
+    {
+        match self {
+            Place::InObject(digest) => digest,
+            Place::InList(digest) => digest,
+        }
+    }
 }

@@ -1,5 +1,7 @@
 // The claim that a value spells, with each disclosure in its place.
-ghost use Rattle.std.specs.Prelude.{◌≡◌, ◌∷◌, [], IfOk, OnOk, Some, None, false, option_map, map, if◌then◌else◌};
+ghost use Rattle.std.specs.Prelude.{◌≡◌, ◌≤◌, ◌∷◌, ◌++◌, [], Bool, IfOk, IfSome, OnOk, Some, None, false, option_map, map, length, take, drop, if◌then◌else◌};
+ghost use Rattle.std.specs.Option.{option_map_or};
+ghost use Rattle.claim_tree.specs.Tree.{Tree};
 ghost use Rattle.serde_json.specs.View.{view, items_view, members_view, number_view};
 ghost use Rattle.claim_tree.specs.Plain.{plain_number};
 ghost use Rattle.sdjwt_view.specs.Disclosures.{is_among, found};
@@ -14,8 +16,9 @@ use crate::node::{Element, Member, Node, Spelled};
 use crate::places::{has_placeholder, own_digests, placeholder};
 use serde_json::{Map, Number, Value};
 use std::alloc::{AllocError, Global};
+use std::cmp::Ordering;
 
-// `None` where the value has more than so many lists and records inside one Other.
+/// None where the value has more than so many lists and records inside one Other.
 #[cycle(spell)]
 pub fn spell(
     alloc: Global,
@@ -61,7 +64,7 @@ fn spell_list(
         match spell_element(alloc, levels, disclosures, item)? {
             Spelled::Found(element) => elements.push(element)?,
             Spelled::Nothing => {}
-            Spelled::Refused => return Ok(None),
+            Spelled::TooDeep => return Ok(None),
         }
     }
     Ok(Some(Node::List(has_placeholder(list), elements)))
@@ -85,7 +88,7 @@ fn spell_element(
         return Ok(Spelled::Nothing);
     };
     if disclosure.name().is_some() {
-        return Ok(Spelled::Refused);
+        return Ok(Spelled::Nothing);
     }
     let node = spell(alloc, levels, disclosures, disclosure.value())?;
     Ok(part(true, node))
@@ -191,7 +194,7 @@ fn put_disclosed(
         return Ok(true);
     };
     let Some(name) = disclosure.name() else {
-        return Ok(false);
+        return Ok(true);
     };
     let Some(node) = spell(alloc, levels, disclosures, disclosure.value())? else {
         return Ok(false);
@@ -208,17 +211,31 @@ fn put_disclosed(
     Ok(true)
 }
 
-// Before the first member whose name is greater.
+// In its place by its name; a name that is there already stays as it is.
 fn put_member(members: &mut Vec<Member>, member: Member) -> Result<(), AllocError>
     ensures { OnOk result
         (map named_of members.new.items ≡ put_member (named_of member) (map named_of members.old.items)) }
 {
-    let mut place = 0;
-    while place < members.len() && !(member.name < members[place].name) {
-        place += 1;
+    if let Some(place) = place_for(members, member.name.as_str()) {
+        members.insert(place, member)?;
     }
-    members.insert(place, member)?;
     Ok(())
+}
+
+// Before the first member whose name is greater, or nowhere where the name is there.
+fn place_for(members: &[Member], name: &str) -> Option<usize>
+    ensures within { IfSome result (λ place. place ≤ length members.now) }
+    ensures place { (held : Bool) (tree : Tree) → put_member (name.now, held, tree) (map named_of members.now)
+        ≡ option_map_or (λ place. map named_of (take place members.now) ++ (name.now, held, tree) ∷ map named_of (drop place members.now)) result (map named_of members.now) }
+{
+    for (place, member) in members.iter().enumerate() {
+        match name.cmp(member.name.as_str()) {
+            Ordering::Less => return Some(place),
+            Ordering::Equal => return None,
+            Ordering::Greater => {}
+        }
+    }
+    Some(members.len())
 }
 
 fn part(held: bool, node: Option<Node>) -> Spelled
@@ -226,7 +243,7 @@ fn part(held: bool, node: Option<Node>) -> Spelled
 {
     match node {
         Some(node) => Spelled::Found(Element { held, node }),
-        None => Spelled::Refused,
+        None => Spelled::TooDeep,
     }
 }
 

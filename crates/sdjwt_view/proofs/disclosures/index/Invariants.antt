@@ -1,11 +1,11 @@
 use Rattle.std.proofs.Common.{◌≡◌, take, map, true}
 use Rattle.std.specs.BTreeMap.{get_by_text}
 use Rattle.sdjwt_view.specs.Disclosures.{Utf8, differ}
-use Rattle.sdjwt_view.specs.Named.{digest_of, first_place}
+use Rattle.sdjwt_view.specs.Named.{own_digest, first_place}
 use Rattle.sdjwt_view.proofs.disclosures.index.Given as goal
 
 abbrev pub invariant-loop-i : goal.invariant-loop-i
 invariant-loop-i l = record {
-  placed : (x : Utf8) → get_by_text l.order x ≡ first_place x (map digest_of (take l.i l.list.items));
-  apart : differ (map digest_of (take l.i l.list.items)) ≡ true;
+  placed : (x : Utf8) → get_by_text l.order x ≡ first_place x (map own_digest (take l.i l.list.items));
+  apart : differ (map own_digest (take l.i l.list.items)) ≡ true;
 }

@@ -1,0 +1,126 @@
+-- First places, and texts that differ.
+use Rattle.std.proofs.Common.{◌≡◌, ℕ, suc, ◌+◌, ◌<◌, ◌≤◌, Bool, true, false, not, ◌&&◌, ◌||◌, cond, List, [], ◌∷◌, ◌++◌, length, map, take, get_or, Option, Some, None, option_map, option_and_then, refl, sym, ap, ◌∙◌, arith, inl, inr, slice_get, drop, Bor, ltb, ap₂, BTreeMap, String, Global}
+use Rattle.std.specs.Option.{option_or, is_some, IfSome}
+use Rattle.std.specs.BTreeMap.{get_by_text}
+use Rattle.std.specs.Map.{update}
+use Rattle.std.specs.Str.{bytes_eq}
+use Rattle.std.proofs.lemmas.Bool.{cases_Bool}
+use Rattle.std.proofs.lemmas.Slice.Eq.{bytes_eq-Decides}
+use Rattle.std.proofs.lemmas.List.{take_more, map-append, take-append-drop}
+use Rattle.std.proofs.lemmas.List.Folds.{list_any-append}
+use Rattle.std.proofs.lemmas.Bool.Decides.{nat_tests}
+use Rattle.std.proofs.lemmas.Option.{slice_get-get_or, slice_get_past}
+use Rattle.std.proofs.lemmas.List.{length-map, length-take-le}
+use Rattle.std.proofs.lemmas.Grind.{common_steps}
+use Rattle.sdjwt_view.specs.Disclosures.{Utf8, is_among, differ, found}
+use Rattle.sdjwt_view.specs.Said.{said}
+use Rattle.sdjwt_view.specs.Named.{own_digest, first_place}
+use Rattle.sdjwt_view.specs.declared.disclosure.Disclosure.{Disclosure}
+
+one_later : (b : Bool) (o : Option ℕ) (n : ℕ) → option_map suc (option_or o (cond b (Some n) None)) ≡ option_or (option_map suc o) (cond b (Some (suc n)) None)
+one_later true None n = refl
+one_later true (Some k) n = refl
+one_later false None n = refl
+one_later false (Some k) n = refl
+
+first_or : (b : Bool) (o p : Option ℕ) → cond b (Some 0) (option_or o p) ≡ option_or (cond b (Some 0) o) p
+first_or true o p = refl
+first_or false o p = refl
+
+pub first_place_push : (x : Utf8) (xs : List Utf8) (y : Utf8) → first_place x (xs ++ y ∷ []) ≡ option_or (first_place x xs) (cond (bytes_eq y x) (Some (length xs)) None)
+first_place_push x [] y = refl
+first_place_push x (z ∷ xs) y = ap (λ o. cond (bytes_eq z x) (Some 0) (option_map suc o)) (first_place_push x xs y) ∙ ap (cond (bytes_eq z x) (Some 0)) (one_later (bytes_eq y x) (first_place x xs) (length xs)) ∙ first_or (bytes_eq z x) _ _
+
+or_none : (o : Option ℕ) → option_or o None ≡ o
+or_none None = refl
+or_none (Some n) = refl
+
+same_from : (xs ys : Utf8) → bytes_eq xs ys ≡ true → xs ≡ ys
+same_from xs ys h = (bytes_eq-Decides xs ys).0 h
+
+pub place_step : (q : Utf8) (xs : List Utf8) (y : Utf8) → first_place y xs ≡ None → cond (bytes_eq y q) (Some (length xs)) (first_place q xs) ≡ first_place q (xs ++ y ∷ [])
+place_step q xs y new = elim (cases_Bool (bytes_eq y q)) [
+  | inl same ↦ let is = same_from y q same in rw (first_place_push q xs y, same) (ap (λ o. option_or o (Some (length xs))) (sym new ∙ ap (λ k. first_place k xs) is))
+  | inr other ↦ rw (first_place_push q xs y, other) (sym (or_none (first_place q xs)))
+]
+
+pub is_some-first_place : (x : Utf8) (xs : List Utf8) → is_some (first_place x xs) ≡ is_among x xs
+is_some-first_place x [] = refl
+is_some-first_place x (y ∷ ys) = elim (cases_Bool (bytes_eq y x)) [
+  | inl same ↦ rw same refl
+  | inr other ↦ rw other (grind (arith, common_steps, is_some-first_place x ys))
+]
+
+bytes_eq-flip : (xs ys : Utf8) → bytes_eq xs ys ≡ bytes_eq ys xs
+bytes_eq-flip xs ys = elim (cases_Bool (bytes_eq xs ys)) [
+  | inl same ↦ let is = same_from xs ys same in ap (bytes_eq xs) (sym is) ∙ ap (λ z. bytes_eq z xs) is
+  | inr other ↦ elim (cases_Bool (bytes_eq ys xs)) [
+    | inl same ↦ let is = same_from ys xs same in ap (bytes_eq xs) is ∙ ap (λ z. bytes_eq z xs) (sym is)
+    | inr too ↦ other ∙ sym too
+  ]
+]
+
+shuffle : (a b c e : Bool) → (not (a || (b || false)) && (c && not e)) ≡ ((not a && c) && not (b || e))
+shuffle true b c e = refl
+shuffle false true true e = refl
+shuffle false true false e = refl
+shuffle false false true true = refl
+shuffle false false true false = refl
+shuffle false false false e = refl
+
+pub differ_push : (xs : List Utf8) (y : Utf8) → differ (xs ++ y ∷ []) ≡ (differ xs && not (is_among y xs))
+differ_push [] y = refl
+differ_push (x ∷ xs) y =
+    rw (list_any-append (λ z. bytes_eq z x) xs (y ∷ []), differ_push xs y) (shuffle (is_among x xs) (bytes_eq y x) (differ xs) (is_among y xs) ∙ ap (λ b. (not (is_among x xs) && differ xs) && not (b || is_among y xs)) (bytes_eq-flip y x))
+
+and_false : (b : Bool) → (b && false) ≡ false
+and_false true = refl
+and_false false = refl
+
+pub differ_front : (xs ys : List Utf8) → differ xs ≡ false → differ (xs ++ ys) ≡ false
+differ_front [] ys h = absurd (cc h)
+differ_front (x ∷ xs) ys h = elim (cases_Bool (is_among x xs)) [
+  | inl among ↦ rw (list_any-append (λ z. bytes_eq z x) xs ys, among) refl
+  | inr apart ↦ let rest : differ xs ≡ false = (rw apart at h) in rw (differ_front xs ys rest) (and_false _)
+]
+
+one_on : (d : Disclosure) (ds : List Disclosure) (o : Option ℕ) → option_and_then (λ i. option_map said (slice_get (d ∷ ds) i)) (option_map suc o) ≡ option_and_then (λ i. option_map said (slice_get ds i)) o
+one_on d ds None = refl
+one_on d ds (Some i) = refl
+
+pub found-first_place : (x : Utf8) (ds : List Disclosure) → option_and_then (λ i. option_map said (slice_get ds i)) (first_place x (map own_digest ds)) ≡ found x (map said ds)
+found-first_place x [] = refl
+found-first_place x (d ∷ ds) = elim (cases_Bool (bytes_eq (own_digest d) x)) [
+  | inl same ↦ rw same refl
+  | inr other ↦ rw other (one_on d ds (first_place x (map own_digest ds)) ∙ found-first_place x ds)
+]
+
+pub none_there : (o : Option ℕ) → is_some o ≡ false → o ≡ None
+none_there None h = refl
+none_there (Some n) h = absurd (cc h)
+
+-- the digests up to the next
+pub digests_next : (ds : List Disclosure) (i : ℕ) (d : Disclosure) → i < length ds → d ≡ get_or ds i d → map own_digest (take (i + 1) ds) ≡ map own_digest (take i ds) ++ own_digest d ∷ []
+digests_next ds i d h is = ap (map own_digest) (take_more ds i d h) ∙ map-append own_digest (take i ds) (get_or ds i d ∷ []) ∙ ap (λ e. map own_digest (take i ds) ++ own_digest e ∷ []) (sym is)
+
+pub digests_rest : (ds : List Disclosure) (i : ℕ) → map own_digest ds ≡ map own_digest (take i ds) ++ map own_digest (drop i ds)
+digests_rest ds i = ap (map own_digest) (sym (take-append-drop i ds)) ∙ map-append own_digest (take i ds) (drop i ds)
+
+pub got : (r : Option (Bor Disclosure)) (ds : List Disclosure) (i : ℕ) → is_some r ≡ ltb i (length ds) → IfSome r (λ x. x.now ≡ get_or ds i x.now) → option_map (λ x. said x.now) r ≡ option_map said (slice_get ds i)
+got None ds i none is =
+    let past : length ds ≤ i = grind (arith, nat_tests) in
+    sym (ap (option_map said) (slice_get_past ds i past))
+got (Some x) ds i some is =
+    let within : i < length ds = grind (arith, nat_tests) in
+    ap (λ d. Some (said d)) is ∙ sym (ap (option_map said) (slice_get-get_or ds i x.now within))
+
+pub clashing : (a b : Bool) → b ≡ true → (a && not b) ≡ false
+clashing a b h = rw h (and_false a)
+
+pub length_front : (ds : List Disclosure) (i : ℕ) → i < length ds → length (map own_digest (take i ds)) ≡ i
+length_front ds i h = length-map (take i ds) own_digest ∙ length-take-le i ds (omega arith)
+
+pub index_step : (m : BTreeMap (String Global) ℕ) (i : ℕ) (k y : Utf8) (xs : List Utf8) (x : Utf8) → k ≡ y → get_by_text m x ≡ first_place x xs → length xs ≡ i → first_place y xs ≡ None
+    → update bytes_eq (get_by_text m) k (Some i) x ≡ first_place x (xs ++ y ∷ [])
+index_step m i k y xs x key old size new =
+    ap (λ z. cond (bytes_eq z x) (Some i) (get_by_text m x)) key ∙ ap₂ (λ n o. cond (bytes_eq y x) (Some n) o) (sym size) old ∙ place_step x xs y new

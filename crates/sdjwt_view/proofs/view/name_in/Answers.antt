@@ -1,0 +1,14 @@
+use Rattle.std.proofs.Common.{arith, ◌<◌, length, Some, sym, ap, ◌∙◌}
+use Rattle.sdjwt_view.specs.Nodes.{tree_of}
+use Rattle.claim_tree.specs.Tree.{names}
+use Rattle.sdjwt_view.proofs.NodeParts.{member_name, names-Record, within_list, at_list}
+use Rattle.sdjwt_view.proofs.view.name_in.Goals as goal
+
+pub index-requires : goal.index-requires
+index-requires c = omega (arith, within_list (names (tree_of c.args.node.now)) member_name c.in-Record.members.items c.args.i (names-Record c.args.node.now c.in-Record.members c.in-Record.is) c.requires)
+
+pub returns : goal.returns
+returns c =
+    let e = names-Record c.args.node.now c.in-Record.members c.in-Record.is in
+    at_list (names (tree_of c.args.node.now)) member_name c.in-Record.members.items c.args.i c.index.result.now e (within_list (names (tree_of c.args.node.now)) member_name c.in-Record.members.items c.args.i e c.requires) c.index.ensures
+    ∙ ap Some (sym c.as_str.ensures.value)

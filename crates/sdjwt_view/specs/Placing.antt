@@ -1,0 +1,58 @@
+-- The rules on the disclosures of an SD-JWT and their places (RFC 9901, section 7.1, steps 2 and 3).
+use Rattle.std.specs.Prelude.{ℕ, Bool, false, not, ◌&&◌, ◌||◌, List, [], ◌∷◌, map, codes, Option, Some, None, is_none}
+use Rattle.std.specs.List.{list_any, list_all}
+use Rattle.std.specs.Str.{bytes_eq}
+use Rattle.serde_json.specs.Data.{Data}
+use Rattle.serde_json.specs.Find.{as_object}
+use Rattle.rule_tables.specs.Rules.{rule, first}
+use Rattle.sdjwt_view.specs.Disclosures.{Utf8, is_among, differ, Disclosed}
+use Rattle.sdjwt_view.specs.Places.{sd, dots, is_sound, has_mark, has_inner_mark, digest_at, all_places, are_placed, is_mismatch, own_digests, disclosed_names, has_clash}
+use Rattle.sdjwt_view.specs.Spelling.{sd_alg, spelled_payload}
+
+-- names that no disclosure may bring to the top object
+abbrev pub reserved : List Utf8
+reserved = codes "iss" ∷ codes "nbf" ∷ codes "exp" ∷ codes "cnf" ∷ codes "vct" ∷ codes "status" ∷ sd_alg ∷ []
+
+abbrev pub is_mark_name : Utf8 → Bool
+is_mark_name k = bytes_eq k sd || bytes_eq k dots
+
+-- the disclosure is that of a member whose name is kept for digests
+abbrev pub names_mark : Disclosed → Bool
+names_mark l = elim l.name [ None ↦ false | Some k ↦ is_mark_name k ]
+
+-- the names that come to the top object by disclosures
+abbrev pub top_names : List Disclosed → Data → List Utf8
+top_names ls d = elim (as_object d) [ None ↦ [] | Some ms ↦ disclosed_names ls (own_digests ms) ]
+
+-- rules 7 and 8, and that of credentials whose disclosures do not all lie directly under the payload
+abbrev pub marks_rule : Data → List Disclosed → Option ℕ
+marks_rule payload ls = first
+    (rule 7 (list_any names_mark ls)
+    ∷ rule 8 (not (is_sound payload && list_all (λ l. is_sound l.value) ls))
+    ∷ rule 18 (has_inner_mark payload || list_any (λ l. has_mark l.value) ls)
+    ∷ [])
+
+-- rules 9 and 10
+abbrev pub places_rule : Data → List Disclosed → Option ℕ
+places_rule payload ls = first
+    (rule 9 (not (differ (map digest_at (all_places payload ls))))
+    ∷ rule 10 (not (are_placed payload ls))
+    ∷ [])
+
+-- rules 11 to 13
+abbrev pub any_clash : Data → List Disclosed → Bool
+any_clash payload ls = has_clash ls payload || list_any (λ l. has_clash ls l.value) ls
+
+abbrev pub names_rule : Data → List Disclosed → Option ℕ
+names_rule payload ls = first
+    (rule 11 (list_any (is_mismatch ls) (all_places payload ls))
+    ∷ rule 12 (any_clash payload ls)
+    ∷ rule 13 (list_any (λ k. is_among k reserved) (top_names ls payload))
+    ∷ [])
+
+-- rule 14: too many lists and records inside one another
+abbrev pub depth_rule : Data → List Disclosed → Option ℕ
+depth_rule payload ls = rule 14 (is_none (spelled_payload ls payload))
+
+abbrev pub placing_rule : Data → List Disclosed → Option ℕ
+placing_rule payload ls = first (marks_rule payload ls ∷ places_rule payload ls ∷ names_rule payload ls ∷ depth_rule payload ls ∷ [])
