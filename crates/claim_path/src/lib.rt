@@ -1,14 +1,17 @@
+//! Claims path pointers of OpenID4VP 1.0, and what they hit in a claim tree.
 #![tactic(auto)]
 
-// Paths into claims, and what they hit.
+mod collect;
 mod error;
-mod hits;
 mod path;
 mod read;
 mod search;
 
-pub use error::Error;
-pub use hits::hits as all_hits;
+#[cfg(test)]
+mod tests;
+
+pub use collect::hits;
+pub use error::{Error, NoMemory};
 pub use path::{Path, PathStep, Scalar, Values};
 pub use read::{path_rule, values_rule};
 pub use search::has_hit;
