@@ -6,7 +6,6 @@ mod error;
 mod path;
 mod read;
 mod search;
-
 #[cfg(test)]
 mod tests;
 
