@@ -9,10 +9,13 @@ mod kind;
 pub mod laws;
 mod order;
 mod read;
+#[cfg(test)]
+mod tests;
 mod walk;
 mod writer;
 
 pub use error::{Error, NoMemory};
+pub use head::MAX_DEPTH;
 pub use item::{Entries, Item, Items};
 pub use kind::Kind;
 pub use read::read_one;

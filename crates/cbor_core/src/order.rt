@@ -7,10 +7,7 @@ use crate::error::NoMemory;
 use std::alloc::Global;
 
 /// The pairs, borrowed.
-fn lent_pairs(
-    alloc: Global,
-    pairs: &[(Vec<u8>, Vec<u8>)],
-) -> Result<Vec<(&[u8], &[u8])>, NoMemory>
+fn lent_pairs(alloc: Global, pairs: &[(Vec<u8>, Vec<u8>)]) -> Result<Vec<(&[u8], &[u8])>, NoMemory>
     ensures { IfOk result (λ v. lent v.items ≡ owned pairs.now) }
 {
     let mut order = Vec::with_capacity(alloc, pairs.len())?;
