@@ -1,10 +1,12 @@
 -- The rule that is answered is the least of all that are broken.
-use Rattle.std.proofs.Common.{◌≡◌, ◌<◌, ◌≤◌, Bool, true, false, List, [], ◌∷◌, map, arith, refl, sym, ◌∙◌}
-use Rattle.std.specs.Prelude.{ℕ, codes, not, ◌&&◌, is_none, is_some, nat_lt, length, None, Some}
+use Rattle.std.proofs.lemmas.Bool.Decides.{nat_tests}
+use Rattle.std.proofs.lemmas.List.{length-map}
+use Rattle.std.proofs.Common.{◌≡◌, Option, ◌<◌, ◌≤◌, Bool, true, false, List, [], ◌∷◌, map, arith, refl, sym, ap, ◌∙◌}
+use Rattle.std.specs.Prelude.{ℕ, codes, not, ◌&&◌, ◌==◌, is_none, is_some, nat_lt, length, None, Some}
 use Rattle.std.specs.List.{flat_map}
 use Rattle.serde_json.specs.Data.{Data}
 use Rattle.serde_json.specs.Find.{get}
-use Rattle.rule_tables.specs.Rules.{least, lowest}
+use Rattle.rule_tables.specs.Rules.{rule, first, least, lowest}
 use Rattle.rule_tables.proofs.Lowest.{IsWithin, lowest-none, row, last, table, alone, joined, parts, least_is_lowest, least_within}
 use Rattle.json_forms.specs.Look.{is_empty, text_at, elements_at, is_wrong}
 use Rattle.dcql_query.specs.Ids.{all_have_right_ids, are_right_ids, all_have_ids, has_equal_ids, knows_all_lists}
@@ -62,3 +64,35 @@ unbroken d e = lowest-none (broken_by d) (sym (query_rule-lowest d) ∙ e)
 
 pub least_broken : (d : Data) (n : ℕ) → query_rule d ≡ Some n → lowest (broken_by d) ≡ Some n
 least_broken d n e = sym (query_rule-lowest d) ∙ e
+
+first_two : (m n : ℕ) (a b : Bool) (rs : List (Option ℕ)) → first (rule m a ∷ rule n b ∷ rs) ≡ None → (a ≡ false) × (b ≡ false)
+unfolding rule
+first_two m n true b rs e = absurd cc
+first_two m n false true rs e = absurd cc
+first_two m n false false rs e = (refl, refl)
+
+some_tested : (n : ℕ) → (n == 0) ≡ false → 0 < n
+some_tested n e = grind (arith, nat_tests)
+
+few_tested : (n : ℕ) → nat_lt 16 n ≡ false → n ≤ 16
+few_tested n e = grind (arith, nat_tests)
+
+-- where no rule is answered there are one to 16 credential queries
+pub few_queries : (d : Data) → query_rule d ≡ None → (0 < length (elements_at (codes "credentials") d)) × (length (elements_at (codes "credentials") d) ≤ 16)
+few_queries d e =
+    let tests = first_two 1 2 _ _ _ e in
+    (some_tested _ tests.0, few_tested _ tests.1)
+
+-- so there are in a list of values that means them
+pub few_values : {A : Type 0} (d : Data) (f : A → Data) (xs : List A) → map f xs ≡ elements_at (codes "credentials") d → query_rule d ≡ None → (0 < length xs) × (length xs ≤ 16)
+few_values d f xs h e =
+    let few = few_queries d e in
+    let same : length xs ≡ length (elements_at (codes "credentials") d) = sym (length-map xs f) ∙ ap length h in
+    (omega (arith, few.0, same), omega (arith, few.1, same))
+
+-- and in a list of what was read from each
+pub few_read : {B : Type 0} (d : Data) (g : Data → B) (ds : List Data) (ys : List B) → ys ≡ map g ds → ds ≡ elements_at (codes "credentials") d → query_rule d ≡ None → (0 < length ys) × (length ys ≤ 16)
+few_read d g ds ys r h e =
+    let few = few_queries d e in
+    let same : length ys ≡ length (elements_at (codes "credentials") d) = ap length r ∙ length-map ds g ∙ ap length h in
+    (omega (arith, few.0, same), omega (arith, few.1, same))
