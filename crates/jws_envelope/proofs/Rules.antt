@@ -1,17 +1,16 @@
 -- Which rule the parts of a message break.
-use Rattle.std.proofs.Common.{◌≡◌, ℕ, ◌==◌, ◌&&◌, Bool, true, false, not, cond, List, [], ◌∷◌, ◌++◌, length, Option, Some, None, refl, sym, ap, ◌∙◌, arith, inl, inr}
-use Rattle.std.specs.Prelude.{Result, Ok, Err}
+use Rattle.std.proofs.Common.{◌≡◌, ℕ, ◌==◌, ◌&&◌, Bool, true, false, not, List, [], ◌∷◌, ◌++◌, length, Option, Some, None, refl, sym, ap, ◌∙◌, arith, inl, inr}
+use Rattle.std.specs.Prelude.{Ok}
 use Rattle.std.specs.List.{list_all}
 use Rattle.std.proofs.lemmas.Bool.Decides.{nat_tests}
 use Rattle.std.proofs.lemmas.Bool.{cases_Bool}
 use Rattle.serde_json.specs.Data.{Data}
 use Rattle.json_forms.specs.Look.{is_object}
 use Rattle.rule_tables.specs.Rules.{rule, first, unless_broken}
-use Rattle.base_forms.specs.Url64.{url64_bytes}
 use Rattle.jws_envelope.specs.Compact.{Text, dot_parts}
 use Rattle.jws_envelope.specs.Decoded.{are_url64, AreDecoded}
 use Rattle.jws_envelope.specs.declared.parts.Decoded.{Decoded}
-use Rattle.jws_envelope.specs.Envelope.{Envelope, envelope_of, parts_rule, content_rule, json_in, is_url64_text, jws_rule, jws_of, has_algorithm}
+use Rattle.jws_envelope.specs.Envelope.{envelope_of, parts_rule, content_rule, json_in, is_url64_text, jws_rule, jws_of, has_algorithm}
 
 pub other_count : (ps : List Text) → (length ps ≡ 3 → ⊥) → parts_rule ps ≡ Some 1
 unfolding parts_rule rule

@@ -1,6 +1,6 @@
 -- JSON Web Signatures in compact serialization (RFC 7515, sections 4 and 7.1) with JSON objects as payloads (RFC 7519),
 -- the first rule that a text breaks, and the name of the key that signed one.
-use Rattle.std.specs.Prelude.{ℕ, ◌==◌, ◌&&◌, not, Bool, false, List, [], ◌∷◌, ◌++◌, length, codes, Option, Some, None, option_and_then, unwrap_or, is_some, Result}
+use Rattle.std.specs.Prelude.{ℕ, ◌==◌, not, Bool, false, List, [], ◌∷◌, ◌++◌, length, codes, Option, option_and_then, unwrap_or, is_some, Result}
 use Rattle.std.specs.List.{slice_get, list_all}
 use Rattle.std.specs.Option.{option_map_or}
 use Rattle.std.specs.Str.{bytes_eq}
