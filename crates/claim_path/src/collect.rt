@@ -25,7 +25,8 @@ pub fn hits<'a, V: ClaimView<'a>>(
     ensures exact { IfOk result (λ v. v.items ≡ hits_of path.now (option_copied values.entry) (V.tree view)) }
     ensures ascending { IfOk result (λ v. IsStrictlySortedBy address_cmp v.items) }
 {
-    collect_all(alloc, path, values, view)
+    let found = collect_all(alloc, path, values, view)?;
+    Ok(found)
 }
 
 // The same, of which no order is said.
