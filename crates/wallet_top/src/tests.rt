@@ -4,7 +4,8 @@ use outside::{MemorySink, MemoryStore, Status};
 use std::alloc::Global;
 use std::test::Fail;
 
-const QUERY: &str = r#"{"credentials":[{"id":"a","format":"dc+sd-jwt","claims":[{"path":["given_name"]}]}]}"#;
+const QUERY: &str =
+    r#"{"credentials":[{"id":"a","format":"dc+sd-jwt","claims":[{"path":["given_name"]}]}]}"#;
 
 const TREES: &str = "{\"given_name\":\"Erika\"}\n{\"family_name\":\"M\"}\n{\"given_name\":null}\n";
 
@@ -65,22 +66,59 @@ fn runs(rt: HostRuntime) -> Result<(), Fail> {
     )?;
     let no_path = query_with(alloc, r#""claims":[{"path":[]}]"#)?;
     let two_queries = r#"{"credentials":[{"id":"a","format":"f"},{"id":"b","format":"f"}]}"#;
+    let full = lines(alloc, 1024)?;
+    let too_many = lines(alloc, 1025)?;
     let files: [(&str, &[u8], Status, &str); 15] = [
         (QUERY, TREES.as_bytes(), Status::Done, MATCHES),
         (QUERY, b"", Status::NoOption, "none\n"),
-        (QUERY, b"{}\n{\"given_name\":1}", Status::Done, "match 1\nend\n"),
-        (QUERY, b"{\"given_name\":1}\n{", Status::FileRefused, "file refused t 2\n"),
+        (
+            QUERY,
+            b"{}\n{\"given_name\":1}",
+            Status::Done,
+            "match 1\nend\n",
+        ),
+        (
+            QUERY,
+            b"{\"given_name\":1}\n{",
+            Status::FileRefused,
+            "file refused t 2\n",
+        ),
         (QUERY, b"0\n\n", Status::FileRefused, "file refused t 2\n"),
         (QUERY, b"0\n\xff", Status::FileRefused, "file refused t 1\n"),
         ("{", b"{", Status::FileRefused, "file refused q 1\n"),
-        (&two_names, b"{\"a\":{\"b\":0}}\n{\"a\":\"b\"}\n", Status::Done, "match 0\nend\n"),
-        (&two_sets, b"{\"x\":0}\n{\"y\":0}\n", Status::Done, "match 1\nend\n"),
-        ("{}", TREES.as_bytes(), Status::RequestRefused, "refused query 1\n"),
-        (&no_path, TREES.as_bytes(), Status::RequestRefused, "refused query 14\n"),
+        (
+            &two_names,
+            b"{\"a\":{\"b\":0}}\n{\"a\":\"b\"}\n",
+            Status::Done,
+            "match 0\nend\n",
+        ),
+        (
+            &two_sets,
+            b"{\"x\":0}\n{\"y\":0}\n",
+            Status::Done,
+            "match 1\nend\n",
+        ),
+        (
+            "{}",
+            TREES.as_bytes(),
+            Status::RequestRefused,
+            "refused query 1\n",
+        ),
+        (
+            &no_path,
+            TREES.as_bytes(),
+            Status::RequestRefused,
+            "refused query 14\n",
+        ),
         (&no_path, b"{", Status::FileRefused, "file refused t 1\n"),
         (two_queries, TREES.as_bytes(), Status::NotOne, "not one\n"),
-        (QUERY, &lines(alloc, 1024)?, Status::NoOption, "none\n"),
-        (QUERY, &lines(alloc, 1025)?, Status::FileRefused, "file refused t 1025\n"),
+        (QUERY, &full, Status::NoOption, "none\n"),
+        (
+            QUERY,
+            &too_many,
+            Status::FileRefused,
+            "file refused t 1025\n",
+        ),
     ];
     for (query, trees, status, text) in files {
         let mut store = stored(alloc, query, trees)?;
@@ -121,7 +159,10 @@ fn faults_and_limits(rt: HostRuntime) -> Result<(), Fail> {
     let mut empty = MemoryStore::new(alloc);
     assert_eq!(rt; tried(alloc, &mut empty, 99)?.0, Status::ReadFault);
     let mut out = MemorySink::new(alloc, 99)?;
-    assert_eq!(rt; run(alloc, &words(alloc, &["try", "q"])?, &mut empty, &mut out), Status::Usage);
+    assert_eq!(rt;
+        run(alloc, &words(alloc, &["try", "q"])?, &mut empty, &mut out),
+        Status::Usage
+    );
     assert_eq!(rt; out.bytes(), b"usage\n".as_slice());
     Ok(())
 }
