@@ -5,11 +5,11 @@ use Rattle.program_steps.specs.declared.stop.Stop.{Stop}
 use Rattle.program_steps.specs.declared.stop.Stop.TheVariants.{Refused, Failed, NoMemory}
 use Rattle.program_steps.specs.Outcome.{Outcome}
 use Rattle.program_steps.specs.Plan.{Object, file, Step, asks, looks, plan, Counts, first_refusal, unless_refused, IsFaultIn, IsFaultAmong, NoneRose, asked}
-use Rattle.program_steps.specs.Replies.{Stops, Refuses, ReadStops}
+use Rattle.program_steps.specs.Replies.{Stops, Refuses, IsReadCause}
 
 -- a file's read ended it
 pub stops_at : (before after : Counts) (name : List ℕ) (refusal : Option Outcome) (steps : List Step) (answer : Outcome) (stop : Stop)
-    → Refuses refusal stop → ReadStops name (before (file name)) (after (file name)) stop
+    → Refuses refusal stop → IsReadCause (before (file name)) (after (file name)) stop
     → Stops before after (plan (asks (file name) refusal ∷ steps) answer) stop
 stops_at before after name refusal steps answer (Refused reply) refuses cause =
     sym (ap (λ (r : Option Outcome). unless_refused r (first_refusal steps answer)) refuses)

@@ -6,7 +6,7 @@ use Rattle.program_steps.specs.declared.stop.Fault.{Fault}
 use Rattle.program_steps.specs.declared.stop.Fault.TheVariants.{Read}
 use Rattle.program_steps.specs.declared.stop.Stop.{Stop}
 use Rattle.program_steps.specs.declared.stop.Stop.TheVariants.{Refused, Failed, NoMemory}
-use Rattle.program_steps.specs.Outcome.{Outcome, read_fault, too_long}
+use Rattle.program_steps.specs.Outcome.{Outcome, read_fault}
 use Rattle.program_steps.specs.Plan.{Object, Plan, Counts, outcome_of, IsFaultIn, IsFaultAmong}
 
 -- a reply as the outcome that it is
@@ -40,9 +40,8 @@ Refuses refusal (Refused reply) = refusal ≡ Some (outcome reply)
 Refuses refusal (Failed fault) = ⊤
 Refuses refusal NoMemory = ⊤
 
--- The read of a file ends a step where the file is too long, where the store failed, which was counted between these counts,
--- or where memory was wanting.
-abbrev pub ReadStops : List ℕ → ℕ → ℕ → Stop → Type 0
-ReadStops name before after (Refused reply) = outcome reply ≡ too_long name
-ReadStops name before after (Failed Read) = Rose before after
-ReadStops name before after NoMemory = ⊤
+-- where a step ends by a fault, it is that of a read, and was counted between these counts
+abbrev pub IsReadCause : ℕ → ℕ → Stop → Type 0
+IsReadCause before after (Refused reply) = ⊤
+IsReadCause before after (Failed Read) = Rose before after
+IsReadCause before after NoMemory = ⊤

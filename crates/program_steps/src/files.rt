@@ -1,7 +1,8 @@
 // The reading of a file.
 ghost use Rattle.std.specs.Prelude.{◌≡◌, ◌≤◌, ℕ, List, Some, length, IfOk, IfErr, IfSome, option_map};
+ghost use Rattle.program_steps.specs.Outcome.{too_long};
 ghost use Rattle.program_steps.specs.Reading.{within_limit, text_in};
-ghost use Rattle.program_steps.specs.Replies.{Refuses, ReadStops};
+ghost use Rattle.program_steps.specs.Replies.{Refuses, IsReadCause};
 
 use super::refusals::too_long;
 use super::stop::{Fault, Stop};
@@ -24,7 +25,8 @@ pub fn read_file<S: Store>(
     ensures within { IfOk result (λ bytes. length bytes.items ≤ limit) }
     ensures file { IfSome (S.files store.old) (λ files. IfOk result (λ bytes. files name.now ≡ Some bytes.items)) }
     ensures refusal { IfSome (S.files store.old) (λ files. IfErr result (λ stop. Refuses (within_limit limit name.now (files name.now)) stop)) }
-    ensures cause { IfErr result (λ stop. ReadStops name.now (S.faults store.old name.now) (S.faults store.new name.now) stop) }
+    ensures long { IfErr result (λ stop. Refuses (Some (too_long name.now)) stop) }
+    ensures cause { IfErr result (λ stop. IsReadCause (S.faults store.old name.now) (S.faults store.new name.now) stop) }
 {
     match store.read(alloc, name, limit) {
         Ok(bytes) => Ok(bytes),
