@@ -15,6 +15,8 @@ mod query;
 mod query_rules;
 mod read;
 mod sets;
+#[cfg(test)]
+mod tests;
 
 pub use claims::claims_met;
 pub use error::Error;
