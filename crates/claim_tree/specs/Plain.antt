@@ -1,4 +1,5 @@
--- The claim that a JSON value is: nothing in it is held, and no list is loose.
+-- The claim tree that a JSON value (RFC 8259) is: nothing in it is held, and no list is loose.
+-- A number is whole where it is an integer from -2^63 to 2^64 - 1 and is written without a fraction or an exponent.
 use Rattle.std.specs.Prelude.{pos, false}
 use Rattle.serde_json.specs.Data.{Num, unsigned, negative, float, Data, null, boolean, number, string, array, object, Items, no_items, item, Members as Fields, no_members as no_fields, member as field}
 use Rattle.serde_json.specs.View.{view}
@@ -27,6 +28,6 @@ abbrev mutual
   plain_members no_fields = no_members
   plain_members (field k d ms) = member k false (plain d) (plain_members ms)
 
--- the claim that a value is
+-- the claim tree that a value is
 abbrev pub claim_of : Value → Tree
 claim_of v = plain (view v)

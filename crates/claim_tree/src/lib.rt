@@ -1,14 +1,26 @@
+//! Claims as trees, how to look at one without making a copy, and what is known of a credential beside its claims.
 #![tactic(auto)]
 
-// Claims as trees, and how to look at one without making a copy.
 mod address;
+mod algorithm;
+mod error;
+mod facts;
+mod key_name;
+mod name;
 mod plain;
 mod shape;
+#[cfg(test)]
+mod tests;
 mod tree;
 mod view;
 
-pub use address::{Address, Name, Step};
+pub use address::{Address, Step};
+pub use algorithm::{Alg, SignAlg};
+pub use error::{Error, NoMemory};
+pub use facts::{Facts, Format};
+pub use key_name::KeyName;
+pub use name::Name;
 pub use plain::PlainNode;
 pub use shape::Shape;
-pub use tree::{Error, PlainTree};
+pub use tree::PlainTree;
 pub use view::{ClaimNode, ClaimView};

@@ -6,39 +6,41 @@ ghost use Rattle.claim_tree.specs.Order.{address_cmp};
 ghost use Rattle.claim_tree.specs.Tree.{parts};
 ghost use Rattle.claim_path.specs.Select.{walk, spots_from};
 ghost use Rattle.claim_path.specs.Hits.{hits as hits_of};
-ghost use Rattle.claim_path.specs.Gather.{Gathers};
+ghost use Rattle.claim_path.specs.Collected.{Collects};
 
+use crate::error::NoMemory;
 use crate::path::{Path, PathStep, Values};
 use crate::search::asks_for;
-use claim_tree::{Address, ClaimNode, Shape, Step};
-use std::alloc::{AllocError, Global};
+use claim_tree::{Address, ClaimNode, ClaimView, Shape, Step};
+use std::alloc::Global;
 
-// What `path` hits in the tree that `view` shows, in the order of the tree.
-pub fn hits<V: ClaimNode>(
+/// The addresses of what `path` hits in the tree that stands at `view`, each once, in ascending
+/// order: of the elements that it selects those that equal one of `values`, or all of them.
+pub fn hits<'a, V: ClaimView<'a>>(
     alloc: Global,
     path: &Path,
     values: Option<&Values>,
     view: V,
-) -> Result<Vec<Address>, AllocError>
+) -> Result<Vec<Address>, NoMemory>
     ensures exact { IfOk result (λ v. v.items ≡ hits_of path.now (option_copied values.entry) (V.tree view)) }
     ensures ascending { IfOk result (λ v. IsStrictlySortedBy address_cmp v.items) }
 {
-    let found = gather_all(alloc, path, values, view)?;
+    let found = collect_all(alloc, path, values, view)?;
     Ok(found)
 }
 
 // The same, of which no order is said.
-fn gather_all<V: ClaimNode>(
+fn collect_all<V: ClaimNode>(
     alloc: Global,
     path: &Path,
     values: Option<&Values>,
     view: V,
-) -> Result<Vec<Address>, AllocError>
+) -> Result<Vec<Address>, NoMemory>
     ensures { IfOk result (λ v. v.items ≡ hits_of path.now (option_copied values.entry) (V.tree view)) }
 {
     let mut found = Vec::new(alloc);
     let mut here = Address::root(alloc);
-    if gather(
+    if collect(
         alloc,
         path.steps.as_slice(),
         values,
@@ -53,17 +55,17 @@ fn gather_all<V: ClaimNode>(
 }
 
 // Adds what the rest of a path hits from the element at `here`, or finds the path wrong there.
-#[cycle(gather)]
-fn gather<V: ClaimNode>(
+#[cycle(collect)]
+fn collect<V: ClaimNode>(
     alloc: Global,
     steps: &[PathStep],
     values: Option<&Values>,
     view: V,
     here: &mut Address,
     found: &mut Vec<Address>,
-) -> Result<bool, AllocError>
+) -> Result<bool, NoMemory>
     ensures back { OnOk result (here.new ≡ here.old) }
-    ensures gathers { IfOk result (λ right. Gathers (option_copied values.entry)
+    ensures collects { IfOk result (λ right. Collects (option_copied values.entry)
         (walk steps.now ((here.old, V.tree view) ∷ [])) right found.old.items found.new.items) }
 {
     let Some((first, rest)) = steps.split_first() else {
@@ -77,7 +79,7 @@ fn gather<V: ClaimNode>(
             Shape::Record => match view.member(name.as_str()) {
                 Some(part) => {
                     here.push(Step::Name(name.copy(alloc)?))?;
-                    let right = gather(alloc, rest, values, part, here, found)?;
+                    let right = collect(alloc, rest, values, part, here, found)?;
                     here.pop();
                     Ok(right)
                 }
@@ -86,16 +88,17 @@ fn gather<V: ClaimNode>(
             _ => Ok(false),
         },
         PathStep::Every => match view.shape() {
-            Shape::List => gather_every(alloc, rest, values, view, here, found),
+            Shape::List => collect_every(alloc, rest, values, view, here, found),
             _ => Ok(false),
         },
         PathStep::Place(place) => match view.shape() {
             Shape::List => {
                 if view.loose() {
                     Ok(true)
-                } else if *place < view.len() {
+                } else if *place < view.len() as u64 {
                     here.push(Step::Place(*place))?;
-                    let right = gather(alloc, rest, values, view.at(*place), here, found)?;
+                    let part = view.at(*place as usize);
+                    let right = collect(alloc, rest, values, part, here, found)?;
                     here.pop();
                     Ok(right)
                 } else {
@@ -108,22 +111,22 @@ fn gather<V: ClaimNode>(
 }
 
 // The same from each part of the list at `here`.
-#[cycle(gather)]
-fn gather_every<V: ClaimNode>(
+#[cycle(collect)]
+fn collect_every<V: ClaimNode>(
     alloc: Global,
     steps: &[PathStep],
     values: Option<&Values>,
     view: V,
     here: &mut Address,
     found: &mut Vec<Address>,
-) -> Result<bool, AllocError>
+) -> Result<bool, NoMemory>
     ensures back { OnOk result (here.new ≡ here.old) }
-    ensures gathers { IfOk result (λ right. Gathers (option_copied values.entry)
+    ensures collects { IfOk result (λ right. Collects (option_copied values.entry)
         (walk steps.now (spots_from here.old 0 (parts (V.tree view)))) right found.old.items found.new.items) }
 {
     for i in 0..view.len() {
-        here.push(Step::Place(i))?;
-        let right = gather(alloc, steps, values, view.at(i), here, found)?;
+        here.push(Step::Place(i as u64))?;
+        let right = collect(alloc, steps, values, view.at(i), here, found)?;
         here.pop();
         if !right {
             return Ok(false);
