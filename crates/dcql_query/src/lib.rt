@@ -9,7 +9,7 @@ mod claims;
 mod credential_rules;
 mod credential_sets;
 mod error;
-mod format;
+mod flags;
 mod ids;
 mod query;
 mod query_rules;
@@ -19,6 +19,5 @@ mod sets;
 mod tests;
 
 pub use claims::claims_met;
-pub use error::Error;
-pub use format::Format;
+pub use error::{Error, NoMemory};
 pub use query::{CredentialQuery, Query};
