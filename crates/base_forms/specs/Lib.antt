@@ -1,0 +1,4 @@
+pub mod Url64
+pub mod Base16
+pub mod Hash
+pub mod Refusal
