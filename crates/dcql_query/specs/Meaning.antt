@@ -8,8 +8,8 @@ use Rattle.rule_tables.specs.Rules.{unless_broken}
 use Rattle.json_forms.specs.Look.{elements_of, is_empty, text_at, elements_at}
 use Rattle.claim_path.specs.Read.{step_of, scalars_of}
 use Rattle.dcql_query.specs.declared.query.Claim.{Claim}
-use Rattle.dcql_query.specs.declared.format.Format.{Format}
-use Rattle.dcql_query.specs.declared.format.Format.TheVariants.{SdJwt, Mdoc}
+use Rattle.claim_tree.specs.declared.facts.Format.{Format}
+use Rattle.claim_tree.specs.declared.facts.Format.TheVariants.{SdJwt, Mdoc}
 use Rattle.dcql_query.specs.Ids.{is_named}
 use Rattle.dcql_query.specs.Table.{has_format, query_rule}
 use Rattle.dcql_query.specs.Query.{Credential, CredentialSet, Query}

@@ -2,7 +2,7 @@
 use Rattle.std.specs.Prelude.{ℕ, ◌+◌, Bool, List, [], ◌∷◌, Option, Some, None, if◌then◌else◌}
 use Rattle.std.specs.Str.{bytes_eq}
 use Rattle.dcql_query.specs.declared.query.Claim.{Claim}
-use Rattle.dcql_query.specs.declared.format.Format.{Format}
+use Rattle.claim_tree.specs.declared.facts.Format.{Format}
 
 -- A credential query (section 6.1). `format` is none where it is another than the two that are known. `kinds` are the types that
 -- `meta` allows, and none where any is. A claim set is a list of places in `claims`.

@@ -3,14 +3,13 @@ ghost use Rattle.std.specs.Prelude.{◌≡◌, map, codes};
 ghost use Rattle.serde_json.specs.View.{view};
 ghost use Rattle.serde_json.specs.Find.{get};
 ghost use Rattle.json_forms.specs.Look.{is_wrong};
-ghost use Rattle.rule_tables.specs.Rules.{lesser};
 ghost use Rattle.dcql_query.specs.Table.{is_two_texts, are_right_values, claim_rule, least_claim_rule, is_object_list, claims_rule};
 
 use crate::credential_rules::has_format;
 use crate::ids::{are_right_ids, has_equal_ids};
-use crate::query_rules::lesser;
 use claim_path::{path_rule, values_rule};
 use json_forms::{are_objects, are_texts, elements, elements_at};
+use rule_tables::lesser;
 use serde_json::Value;
 
 // The most claims of a credential query.

@@ -6,7 +6,7 @@ ghost use Rattle.json_forms.specs.Look.{is_wrong};
 ghost use Rattle.dcql_query.specs.Table.{has_format, is_wrong_kind, is_meta, header_rule, is_set_list, sets_rule, credential_rule};
 
 use crate::claim_rules::claims_rule;
-use crate::credential_sets::is_no_bool;
+use crate::flags::is_no_bool;
 use crate::ids::{all_have_ids, knows_all_lists};
 use json_forms::{are_text_lists, elements, elements_at, is_text_list, text_at};
 use serde_json::Value;

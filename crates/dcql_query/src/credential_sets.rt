@@ -1,10 +1,11 @@
 // The rules of credential sets.
-ghost use Rattle.std.specs.Prelude.{◌≡◌, map, option_map, codes};
+ghost use Rattle.std.specs.Prelude.{◌≡◌, map, codes};
 ghost use Rattle.serde_json.specs.View.{view};
 ghost use Rattle.serde_json.specs.Find.{get};
 ghost use Rattle.json_forms.specs.Look.{is_wrong};
-ghost use Rattle.dcql_query.specs.Table.{is_bool, is_few, is_option_list, is_credential_set, are_credential_sets, is_credential_set_list, knows_all_options};
+ghost use Rattle.dcql_query.specs.Table.{is_few, is_option_list, is_credential_set, are_credential_sets, is_credential_set_list, knows_all_options};
 
+use crate::flags::is_no_bool;
 use crate::ids::knows_all_lists;
 use json_forms::{are_text_lists, elements, elements_at};
 use serde_json::Value;
@@ -56,16 +57,6 @@ fn is_option_list(options: &Value) -> bool
 {
     let options = elements(options);
     is_few(options) && are_text_lists(options)
-}
-
-// Whether it is there and no truth value.
-pub(crate) fn is_no_bool(value: Option<&Value>) -> bool
-    ensures { result ≡ is_wrong is_bool (option_map (λ v. view v.now) value.entry) }
-{
-    match value {
-        Some(value) => !value.is_boolean(),
-        None => false,
-    }
 }
 
 // Whether each name in each option is the id of a credential query.

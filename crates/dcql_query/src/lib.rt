@@ -9,14 +9,15 @@ mod claims;
 mod credential_rules;
 mod credential_sets;
 mod error;
-mod format;
+mod flags;
 mod ids;
 mod query;
 mod query_rules;
 mod read;
 mod sets;
+#[cfg(test)]
+mod tests;
 
 pub use claims::claims_met;
-pub use error::Error;
-pub use format::Format;
+pub use error::{Error, NoMemory};
 pub use query::{CredentialQuery, Query};

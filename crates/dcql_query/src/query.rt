@@ -3,9 +3,8 @@ ghost use Rattle.std.specs.Prelude.{◌≡◌, ◌<◌, ◌≤◌, length, slice
 ghost use Rattle.std.specs.Str.{bytes_eq};
 ghost use Rattle.dcql_query.specs.Query.{query_from};
 
-use crate::format::Format;
 use claim_path::{Path, Values};
-use claim_tree::Name;
+use claim_tree::{Format, Name};
 use std::marker::Model;
 
 /// A claim that is asked of a credential: a path, and the values of which its element must have one.

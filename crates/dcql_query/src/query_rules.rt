@@ -1,13 +1,13 @@
 // The rules of a whole query, and the least that is broken.
 ghost use Rattle.std.specs.Prelude.{◌≡◌, map};
 ghost use Rattle.serde_json.specs.View.{view};
-ghost use Rattle.rule_tables.specs.Rules.{lesser};
 ghost use Rattle.dcql_query.specs.Table.{least_credential_rule, query_rule};
 
 use crate::credential_rules::credential_rule;
 use crate::credential_sets::{has_wrong_credential_sets, knows_all_options};
 use crate::ids::{all_have_right_ids, has_equal_ids};
 use json_forms::elements_at;
+use rule_tables::lesser;
 use serde_json::Value;
 
 // The most credential queries of a query.
@@ -51,15 +51,4 @@ fn least_credential_rule(queries: &[Value]) -> Option<u8>
         least = lesser(least, credential_rule(query));
     }
     least
-}
-
-// The lesser of two rules, where they are broken.
-pub(crate) fn lesser(first: Option<u8>, second: Option<u8>) -> Option<u8>
-    ensures { result ≡ lesser first second }
-{
-    match (first, second) {
-        (Some(first), Some(second)) => Some(first.min(second)),
-        (None, second) => second,
-        (first, None) => first,
-    }
 }

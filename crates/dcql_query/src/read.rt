@@ -2,20 +2,20 @@
 ghost use Rattle.std.specs.Prelude.{◌≡◌, Ok, IfOk, IfErr, [], map, option_map};
 ghost use Rattle.serde_json.specs.View.{view};
 ghost use Rattle.dcql_query.specs.Broken.{broken_by, IsLeastOf};
-ghost use Rattle.dcql_query.specs.Meaning.{flag_at, texts_of, claim_of, claims_of, format_of, kinds_in, kinds_of, credential_of, credentials_of, query_of};
+ghost use Rattle.dcql_query.specs.Meaning.{texts_of, claim_of, claims_of, format_of, kinds_in, kinds_of, credential_of, credentials_of, query_of};
 ghost use Rattle.dcql_query.specs.Refusal.{IsRefusal};
 
 use crate::credential_rules::has_format;
-use crate::error::Error;
-use crate::format::Format;
+use crate::error::{Error, NoMemory};
+use crate::flags::flag_at;
 use crate::query::{Claim, CredentialQuery, Query};
 use crate::query_rules::query_rule;
 use crate::sets::{read_credential_sets, read_sets};
 use claim_path::{Path, Values};
-use claim_tree::Name;
+use claim_tree::{Format, Name};
 use json_forms::{elements, elements_at, text_at};
 use serde_json::Value;
-use std::alloc::{AllocError, Global};
+use std::alloc::Global;
 
 impl Query {
     /// The query that a JSON value asks for. Members that the language does not name are passed over.
@@ -70,7 +70,7 @@ impl Query {
     }
 }
 
-fn read_credentials(alloc: Global, queries: &[Value]) -> Result<Vec<CredentialQuery>, AllocError>
+fn read_credentials(alloc: Global, queries: &[Value]) -> Result<Vec<CredentialQuery>, NoMemory>
     ensures { IfOk result (λ v. v.items ≡ credentials_of (map view queries.now)) }
 {
     let mut credentials = Vec::new(alloc);
@@ -80,7 +80,7 @@ fn read_credentials(alloc: Global, queries: &[Value]) -> Result<Vec<CredentialQu
     Ok(credentials)
 }
 
-fn read_credential(alloc: Global, query: &Value) -> Result<CredentialQuery, AllocError>
+fn read_credential(alloc: Global, query: &Value) -> Result<CredentialQuery, NoMemory>
     ensures { IfOk result (λ q. q ≡ credential_of (view query.now)) }
 {
     let format = format_of(query);
@@ -107,23 +107,13 @@ fn format_of(query: &Value) -> Option<Format>
     }
 }
 
-// The truth value at a name, or `usual`.
-pub(crate) fn flag_at(value: &Value, name: &str, usual: bool) -> bool
-    ensures { result ≡ flag_at name.now usual (view value.now) }
-{
-    match value.get(name) {
-        Some(flag) => flag.as_bool().unwrap_or(usual),
-        None => usual,
-    }
-}
-
 // ---- the types that `meta` allows
 
 fn read_kinds(
     alloc: Global,
     query: &Value,
     format: Option<Format>,
-) -> Result<Option<Vec<Name>>, AllocError>
+) -> Result<Option<Vec<Name>>, NoMemory>
     requires { format ≡ format_of (view query.now) }
     ensures { IfOk result (λ o. option_map (λ k. k.items) o ≡ kinds_of (view query.now)) }
 {
@@ -137,7 +127,7 @@ fn read_kinds_in(
     alloc: Global,
     meta: &Value,
     format: Option<Format>,
-) -> Result<Option<Vec<Name>>, AllocError>
+) -> Result<Option<Vec<Name>>, NoMemory>
     ensures { IfOk result (λ o. option_map (λ k. k.items) o ≡ kinds_in format (view meta.now)) }
 {
     match format {
@@ -153,7 +143,7 @@ fn read_kinds_in(
     }
 }
 
-fn read_texts(alloc: Global, values: &[Value]) -> Result<Vec<Name>, AllocError>
+fn read_texts(alloc: Global, values: &[Value]) -> Result<Vec<Name>, NoMemory>
     ensures { IfOk result (λ v. v.items ≡ texts_of (map view values.now)) }
 {
     let mut texts = Vec::new(alloc);
@@ -167,7 +157,7 @@ fn read_texts(alloc: Global, values: &[Value]) -> Result<Vec<Name>, AllocError>
 
 // ---- claims
 
-fn read_claims(alloc: Global, values: &[Value]) -> Result<Vec<Claim>, AllocError>
+fn read_claims(alloc: Global, values: &[Value]) -> Result<Vec<Claim>, NoMemory>
     ensures { IfOk result (λ v. v.items ≡ claims_of (map view values.now)) }
 {
     let mut claims = Vec::new(alloc);
@@ -177,7 +167,7 @@ fn read_claims(alloc: Global, values: &[Value]) -> Result<Vec<Claim>, AllocError
     Ok(claims)
 }
 
-fn read_claim(alloc: Global, claim: &Value) -> Result<Claim, AllocError>
+fn read_claim(alloc: Global, claim: &Value) -> Result<Claim, NoMemory>
     ensures { IfOk result (λ c. c ≡ claim_of (view claim.now)) }
 {
     let path = Path::listed(alloc, elements_at(claim, "path"))?;

@@ -7,15 +7,16 @@ ghost use Rattle.serde_json.specs.Find.{as_str};
 ghost use Rattle.dcql_query.specs.Ids.{is_named};
 ghost use Rattle.dcql_query.specs.Meaning.{claim_from, claim_place, claim_places, given_sets, sets_of, is_among, option_bits, options_of, credential_set_of, credential_sets_of};
 
+use crate::error::NoMemory;
+use crate::flags::flag_at;
 use crate::ids::is_named;
 use crate::query::CredentialSet;
-use crate::read::flag_at;
 use json_forms::{elements, elements_at};
 use serde_json::Value;
-use std::alloc::{AllocError, Global};
+use std::alloc::Global;
 
 // The claim sets of a credential query, each as the places of its claims.
-pub(crate) fn read_sets(alloc: Global, query: &Value) -> Result<Vec<Vec<usize>>, AllocError>
+pub(crate) fn read_sets(alloc: Global, query: &Value) -> Result<Vec<Vec<usize>>, NoMemory>
     ensures sets { IfOk result (λ v. map (λ s. s.items) v.items ≡ sets_of (view query.now)) }
     ensures some { IfOk result (λ v. 0 < length v.items) }
 {
@@ -28,7 +29,7 @@ pub(crate) fn read_sets(alloc: Global, query: &Value) -> Result<Vec<Vec<usize>>,
     }
 }
 
-fn all_places(alloc: Global, count: usize) -> Result<Vec<usize>, AllocError>
+fn all_places(alloc: Global, count: usize) -> Result<Vec<usize>, NoMemory>
     ensures { IfOk result (λ v. v.items ≡ range_with_len 0 count) }
 {
     let mut places = Vec::new(alloc);
@@ -42,7 +43,7 @@ fn read_given_sets(
     alloc: Global,
     claims: &[Value],
     sets: &[Value],
-) -> Result<Vec<Vec<usize>>, AllocError>
+) -> Result<Vec<Vec<usize>>, NoMemory>
     ensures { IfOk result (λ v. map (λ s. s.items) v.items ≡ given_sets (map view claims.now) (map view sets.now)) }
 {
     let mut given = Vec::new(alloc);
@@ -52,7 +53,7 @@ fn read_given_sets(
     Ok(given)
 }
 
-fn read_places(alloc: Global, claims: &[Value], names: &[Value]) -> Result<Vec<usize>, AllocError>
+fn read_places(alloc: Global, claims: &[Value], names: &[Value]) -> Result<Vec<usize>, NoMemory>
     ensures { IfOk result (λ v. v.items ≡ claim_places (map view claims.now) (map view names.now)) }
 {
     let mut places = Vec::new(alloc);
@@ -90,7 +91,7 @@ pub(crate) fn read_credential_sets(
     alloc: Global,
     queries: &[Value],
     sets: &[Value],
-) -> Result<Vec<CredentialSet>, AllocError>
+) -> Result<Vec<CredentialSet>, NoMemory>
     requires { length queries.now ≤ 16 }
     ensures { IfOk result (λ v. v.items ≡ credential_sets_of (map view queries.now) (map view sets.now)) }
 {
@@ -105,7 +106,7 @@ fn read_credential_set(
     alloc: Global,
     queries: &[Value],
     set: &Value,
-) -> Result<CredentialSet, AllocError>
+) -> Result<CredentialSet, NoMemory>
     requires { length queries.now ≤ 16 }
     ensures { IfOk result (λ s. s ≡ credential_set_of (map view queries.now) (view set.now)) }
 {
@@ -114,7 +115,7 @@ fn read_credential_set(
     Ok(CredentialSet { options, required })
 }
 
-fn read_options(alloc: Global, queries: &[Value], options: &[Value]) -> Result<Vec<u16>, AllocError>
+fn read_options(alloc: Global, queries: &[Value], options: &[Value]) -> Result<Vec<u16>, NoMemory>
     requires { length queries.now ≤ 16 }
     ensures { IfOk result (λ v. v.items ≡ options_of (map view queries.now) (map view options.now)) }
 {

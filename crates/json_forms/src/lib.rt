@@ -1,4 +1,4 @@
-//! Looking into JSON values without taking memory, and one JSON text from bytes.
+//! Looking into JSON values without taking memory, and one JSON text from bytes (RFC 8259).
 #![tactic(auto)]
 
 mod look;

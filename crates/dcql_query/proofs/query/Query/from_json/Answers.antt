@@ -1,4 +1,4 @@
-use Rattle.std.proofs.Common.{◌≡◌, length, map, sym}
+use Rattle.std.proofs.Common.{◌≡◌, map, sym}
 use Rattle.std.specs.Prelude.{None}
 use Rattle.serde_json.specs.View.{view}
 use Rattle.dcql_query.specs.Meaning.{credential_of}
