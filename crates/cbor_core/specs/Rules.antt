@@ -1,6 +1,6 @@
 -- Which rule of reading one item (RFC 8949) bytes break, the least of them. 1 the bytes end within the item, 2 a reserved
 -- head, 3 a string in chunks, 4 a text that is not UTF-8, 5 a doubled key, 6 nested too deep, 7 bytes are left over.
-use Rattle.std.specs.Prelude.{◌≡◌, ℕ, zero, suc, ◌-◌, List, [], ◌∷◌, length, take, Bool, true, false, not, ◌&&◌, ◌||◌, Option, Some, None, Result, Ok, Err, ℤ, nat_lt, if◌then◌else◌, map}
+use Rattle.std.specs.Prelude.{ℕ, zero, suc, List, length, Bool, true, not, ◌&&◌, Option, Some, None, Result, Ok, Err, nat_lt, if◌then◌else◌}
 use Rattle.std.specs.Option.{option_map_or}
 use Rattle.std.specs.List.{list_all}
 use Rattle.std.specs.Str.{is_utf8}

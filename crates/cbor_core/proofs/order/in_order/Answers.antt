@@ -2,7 +2,7 @@ use Rattle.std.proofs.Common.{rules, ℕ, List, Bor, IsPermutation, subst}
 use Rattle.std.specs.Ordering.{nat_cmp, is_lt}
 use Rattle.std.specs.Cmp.Lexicographic.{slice_cmp}
 use Rattle.std.proofs.lemmas.List.Sorted.{IsPermutation-map, answers_always}
-use Rattle.cbor_core.specs.Order.{Pair, owned, lent}
+use Rattle.cbor_core.specs.Order.{Pair, lent}
 use Rattle.cbor_core.proofs.Ordered.{sorted-map}
 use Rattle.cbor_core.proofs.order.in_order.Goals as goal
 
