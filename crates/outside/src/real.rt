@@ -1,5 +1,5 @@
 // The outside over the system. It tells no content.
-ghost use Rattle.std.specs.Prelude.{None};
+ghost use Rattle.std.specs.Prelude.{◌≡◌, None};
 
 use super::error::{Failed, StoreError};
 use super::sink::Sink;
@@ -20,7 +20,9 @@ pub struct FileStore<R: Files + Drop> {
 
 impl<R: Files + Drop> FileStore<R> {
     /// Opens nothing and takes no memory.
-    pub fn new(rt: R) -> Self {
+    pub fn new(rt: R) -> Self
+        ensures { result.faults ≡ 0 }
+    {
         FileStore { rt, faults: 0 }
     }
 
@@ -72,7 +74,9 @@ pub struct OutSink<R: Print + Drop> {
 
 impl<R: Print + Drop> OutSink<R> {
     /// Opens nothing and takes no memory.
-    pub fn new(rt: R) -> Self {
+    pub fn new(rt: R) -> Self
+        ensures { result.faults ≡ 0 }
+    {
         OutSink { rt, faults: 0 }
     }
 }
