@@ -1,4 +1,5 @@
--- The selected elements that have one of the values that are asked for.
+-- The hits of a claim: the selected elements that equal one of its `values` in kind and value, and all of them where it has
+-- no `values` (OpenID4VP 1.0, sections 6.3 and 6.4.1).
 use Rattle.std.specs.Prelude.{Bool, true, false, List, [], map, filter, Option, Some, None, unwrap_or}
 use Rattle.std.specs.Ordering.{int_eq}
 use Rattle.std.specs.List.{list_any}

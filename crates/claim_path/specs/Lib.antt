@@ -1,6 +1,7 @@
+pub mod Path
 pub mod Select
 pub mod Hits
 pub mod Found
-pub mod Gather
+pub mod Collected
 pub mod Read
 pub mod Refusal

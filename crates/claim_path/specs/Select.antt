@@ -1,4 +1,10 @@
--- What a path selects in a claim.
+-- What a claims path pointer selects in a claim tree (OpenID4VP 1.0, section 7).
+--
+-- Each step maps the whole selection, which begins with the root:
+--   a name    each record gives its member of that name, or drops out where it has none
+--   null      each list gives all its elements
+--   a number  each list gives its element at that place from 0, or drops out where it has none; a loose list drops out
+-- A step makes the whole path wrong where any selected element is of another kind, and so does an empty selection.
 use Rattle.std.specs.Prelude.{ℕ, ◌+◌, true, false, List, [], ◌∷◌, ◌++◌, Option, Some, None, option_map, option_and_then}
 use Rattle.std.specs.List.{slice_get}
 use Rattle.std.specs.Option.{option_to_list}
@@ -48,6 +54,6 @@ abbrev pub unless_empty : {A : Type 0} → List A → Option (List A)
 unless_empty [] = None
 unless_empty (x ∷ xs) = Some (x ∷ xs)
 
--- what a path selects, or `None` where it is wrong in this tree
+-- what a path selects, in the order of the tree, or `None` where the path is wrong in it
 abbrev pub select : List PathStep → Tree → Option (List Spot)
 select path t = option_and_then unless_empty (walk path (([], t) ∷ []))

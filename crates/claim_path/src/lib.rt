@@ -1,14 +1,16 @@
+//! Claims path pointers of OpenID4VP 1.0, and what they hit in a claim tree.
 #![tactic(auto)]
 
-// Paths into claims, and what they hit.
+mod collect;
 mod error;
-mod hits;
 mod path;
 mod read;
 mod search;
+#[cfg(test)]
+mod tests;
 
-pub use error::Error;
-pub use hits::hits as all_hits;
+pub use collect::hits;
+pub use error::{Error, NoMemory};
 pub use path::{Path, PathStep, Scalar, Values};
 pub use read::{path_rule, values_rule};
 pub use search::has_hit;

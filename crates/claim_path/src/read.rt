@@ -5,14 +5,20 @@ ghost use Rattle.json_forms.specs.Look.{elements_of};
 ghost use Rattle.claim_path.specs.Read.{step_of, are_steps, are_scalars, path_rule, path_of, scalar_of, values_rule, values_of};
 ghost use Rattle.claim_path.specs.Refusal.{IsRefusal};
 
-use crate::error::Error;
+use crate::error::{Error, NoMemory};
 use crate::path::{Path, PathStep, Scalar, Values};
 use claim_tree::Name;
 use json_forms::elements;
 use serde_json::Value;
-use std::alloc::{AllocError, Global};
+use std::alloc::Global;
 
 impl Path {
+    /// The path that a JSON value is: a list of 1 to 16 steps, each a text, null or a whole number
+    /// from 0 to 2^64 - 1.
+    ///
+    /// # Errors
+    ///
+    /// The first broken rule, as [`path_rule`] gives it, and want of memory.
     pub fn from_json(alloc: Global, value: &Value) -> Result<Path, Error>
         ensures ok { IfOk result (λ p. path_of (view value.now) ≡ Ok p) }
         ensures refused { IfErr result (λ e. IsRefusal (path_of (view value.now)) e) }
@@ -23,8 +29,9 @@ impl Path {
         Ok(Path::listed(alloc, elements(value))?)
     }
 
-    // The path of these steps, with what is no step passed over.
-    pub fn listed(alloc: Global, values: &[Value]) -> Result<Path, AllocError>
+    /// The path of the steps among these values. What is no step is passed over, so a caller looks
+    /// at [`path_rule`] before.
+    pub fn listed(alloc: Global, values: &[Value]) -> Result<Path, NoMemory>
         ensures { IfOk result (λ p. p ≡ filter_map step_of (map view values.now)) }
     {
         let steps = read_steps(alloc, values)?;
@@ -33,6 +40,12 @@ impl Path {
 }
 
 impl Values {
+    /// The values that a JSON value is: a list of 1 to 32 texts, whole numbers from -2^63 to
+    /// 2^64 - 1 and truth values.
+    ///
+    /// # Errors
+    ///
+    /// The broken rule, as [`values_rule`] gives it, and want of memory.
     pub fn from_json(alloc: Global, value: &Value) -> Result<Values, Error>
         ensures ok { IfOk result (λ v. values_of (view value.now) ≡ Ok v) }
         ensures refused { IfErr result (λ e. IsRefusal (values_of (view value.now)) e) }
@@ -43,8 +56,9 @@ impl Values {
         Ok(Values::listed(alloc, elements(value))?)
     }
 
-    // These values, with what is no value passed over.
-    pub fn listed(alloc: Global, values: &[Value]) -> Result<Values, AllocError>
+    /// The texts, whole numbers and truth values among these values. All else is passed over, so a
+    /// caller looks at [`values_rule`] before.
+    pub fn listed(alloc: Global, values: &[Value]) -> Result<Values, NoMemory>
         ensures { IfOk result (λ v. v ≡ filter_map scalar_of (map view values.now)) }
     {
         let members = read_scalars(alloc, values)?;
@@ -52,7 +66,8 @@ impl Values {
     }
 }
 
-/// The first rule that a path breaks, without memory.
+/// The first rule that a path in JSON breaks: 1 no list, 2 empty, 3 a step that is no text, null or
+/// whole number from 0 to 2^64 - 1, 4 more than 16 steps. It takes no memory.
 #[tactic(auto, unfolding(rule_tables::specs::Rules::rule))]
 pub fn path_rule(value: &Value) -> Option<u8>
     ensures { result ≡ path_rule (view value.now) }
@@ -71,7 +86,8 @@ pub fn path_rule(value: &Value) -> Option<u8>
     }
 }
 
-/// The rule that the values of a claim break, without memory.
+/// The rule that the values of a claim in JSON break: 1 no list of 1 to 32 texts, whole numbers from
+/// -2^63 to 2^64 - 1 and truth values. It takes no memory.
 #[tactic(auto, unfolding(rule_tables::specs::Rules::rule))]
 pub fn values_rule(value: &Value) -> Option<u8>
     ensures { result ≡ values_rule (view value.now) }
@@ -130,7 +146,7 @@ fn is_scalar(value: &Value) -> bool
     }
 }
 
-fn read_steps(alloc: Global, values: &[Value]) -> Result<Vec<PathStep>, AllocError>
+fn read_steps(alloc: Global, values: &[Value]) -> Result<Vec<PathStep>, NoMemory>
     ensures { IfOk result (λ v. v.items ≡ filter_map step_of (map view values.now)) }
 {
     let mut steps = Vec::new(alloc);
@@ -142,21 +158,21 @@ fn read_steps(alloc: Global, values: &[Value]) -> Result<Vec<PathStep>, AllocErr
     Ok(steps)
 }
 
-fn read_step(alloc: Global, value: &Value) -> Result<Option<PathStep>, AllocError>
+fn read_step(alloc: Global, value: &Value) -> Result<Option<PathStep>, NoMemory>
     ensures { IfOk result (λ s. s ≡ step_of (view value.now)) }
 {
     match value {
         Value::Null => Ok(Some(PathStep::Every)),
         Value::String(text) => Ok(Some(PathStep::Member(Name::new(alloc, text.as_str())?))),
         Value::Number(number) => match number.as_u64() {
-            Some(place) => Ok(Some(PathStep::Place(place as usize))),
+            Some(place) => Ok(Some(PathStep::Place(place))),
             None => Ok(None),
         },
         _ => Ok(None),
     }
 }
 
-fn read_scalars(alloc: Global, values: &[Value]) -> Result<Vec<Scalar>, AllocError>
+fn read_scalars(alloc: Global, values: &[Value]) -> Result<Vec<Scalar>, NoMemory>
     ensures { IfOk result (λ v. v.items ≡ filter_map scalar_of (map view values.now)) }
 {
     let mut scalars = Vec::new(alloc);
@@ -168,7 +184,7 @@ fn read_scalars(alloc: Global, values: &[Value]) -> Result<Vec<Scalar>, AllocErr
     Ok(scalars)
 }
 
-fn read_scalar(alloc: Global, value: &Value) -> Result<Option<Scalar>, AllocError>
+fn read_scalar(alloc: Global, value: &Value) -> Result<Option<Scalar>, NoMemory>
     ensures { IfOk result (λ s. s ≡ scalar_of (view value.now)) }
 {
     match value {

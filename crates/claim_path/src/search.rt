@@ -6,7 +6,7 @@ ghost use Rattle.claim_path.specs.Hits.{equals, is_asked, hits};
 ghost use Rattle.claim_path.specs.Found.{found, both_found};
 
 use crate::path::{Path, PathStep, Scalar, Values};
-use claim_tree::{ClaimNode, Shape};
+use claim_tree::{ClaimNode, ClaimView, Shape};
 
 // What a search of a part of the tree came to.
 #[derive(Clone, Copy, PartialEq, Eq, Debug)]
@@ -17,7 +17,9 @@ pub(crate) enum Found {
 }
 
 // Whether `path` hits an element of the tree that `view` shows.
-pub fn has_hit<V: ClaimNode>(path: &Path, values: Option<&Values>, view: V) -> bool
+/// Whether `path` hits anything in the tree that stands at `view`: whether it selects an element that
+/// equals one of `values`, or any element where there are none. It takes no memory.
+pub fn has_hit<'a, V: ClaimView<'a>>(path: &Path, values: Option<&Values>, view: V) -> bool
     ensures { IsTrue result ↔ (0 < length (hits path.now (option_copied values.entry) (V.tree view))) }
 {
     matches!(search(path.steps.as_slice(), values, view), Found::Hit)
@@ -56,8 +58,8 @@ fn search<V: ClaimNode>(steps: &[PathStep], values: Option<&Values>, view: V) ->
             Shape::List => {
                 if view.loose() {
                     Found::Nothing
-                } else if *place < view.len() {
-                    search(rest, values, view.at(*place))
+                } else if *place < view.len() as u64 {
+                    search(rest, values, view.at(*place as usize))
                 } else {
                     Found::Nothing
                 }

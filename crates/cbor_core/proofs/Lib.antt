@@ -1,0 +1,11 @@
+pub mod Steps
+pub mod Fronts
+pub mod Reading
+pub mod Deeper
+pub mod Cutting
+pub mod Inside
+pub mod Written
+pub mod Steady
+pub mod Keys
+pub mod Ordered
+pub mod Counts

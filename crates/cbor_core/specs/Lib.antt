@@ -1,0 +1,12 @@
+pub mod Head
+pub mod Item
+pub mod Grammar
+pub mod Views
+pub mod Writing
+pub mod Rules
+pub mod Refusal
+pub mod Laws
+pub mod Order
+pub mod Seen
+pub mod Keys
+pub mod KeySeen

@@ -1,0 +1,166 @@
+-- What an item says, by its own bytes.
+use Rattle.std.specs.Prelude.{ℕ, zero, suc, ◌-◌, List, [], ◌∷◌, length, take, Bool, true, false, Option, Some, None, Result, Ok, Err, ℤ, pos, negsuc, option_and_then, ◌==◌, if◌then◌else◌}
+use Rattle.std.specs.Option.{option_map_or}
+use Rattle.std.specs.Str.{bytes_eq, is_utf8}
+use Rattle.cbor_core.specs.declared.head.Fault.{Fault}
+use Rattle.cbor_core.specs.declared.head.Head.{Head}
+use Rattle.cbor_core.specs.declared.head.Head.TheVariants as head
+use Rattle.cbor_core.specs.declared.kind.Kind.{Kind}
+use Rattle.cbor_core.specs.declared.kind.Kind.TheVariants as kind
+use Rattle.cbor_core.specs.declared.head.TheConstants.{MAX_DEPTH}
+use Rattle.cbor_core.specs.Head.{head_at}
+use Rattle.cbor_core.specs.Item.{Reader, item_at}
+
+abbrev pub on_ok : {A B : Type 0} → Result A Fault → (A → B) → B → B
+on_ok (Ok x) f d = f x
+on_ok (Err e) f d = d
+
+abbrev pub ends : Result (List ℕ) Fault → Bool
+ends (Ok []) = true
+ends (Ok (b ∷ bytes)) = false
+ends (Err f) = false
+
+-- Are the bytes one item, with at most MAX_DEPTH lists, maps and tags inside one another?
+unfoldable pub is_item : List ℕ → Bool
+is_item bytes = ends (item_at MAX_DEPTH bytes)
+
+-- the bytes before rest, which stands at their end
+abbrev pub before : List ℕ → List ℕ → List ℕ
+before rest bytes = take (length bytes - length rest) bytes
+
+-- bytes cut into what read reads, one after another, up to where it reads nothing
+unfoldable pub cut : Reader → ℕ → List ℕ → List (List ℕ)
+cut read turns [] = []
+cut read zero (b ∷ bytes) = []
+cut read (suc turns) (b ∷ bytes) = on_ok (read (b ∷ bytes)) (λ rest. before rest (b ∷ bytes) ∷ cut read turns rest) []
+
+-- the items that bytes are, one after another
+unfoldable pub items_in : List ℕ → List (List ℕ)
+items_in bytes = cut (item_at MAX_DEPTH) (length bytes) bytes
+
+-- bytes without the break at their end
+abbrev pub before_break : List ℕ → List ℕ
+before_break bytes = take (length bytes - 1) bytes
+
+-- what a word says by an item's head and the bytes behind it
+abbrev pub by_head : {A : Type 0} → (Head → List ℕ → A) → A → List ℕ → A
+by_head f d bytes = on_ok (head_at bytes) (λ h. f h.0 h.1) d
+
+abbrev pub whole_by : Head → List ℕ → Option ℤ
+whole_by (head.Unsigned n) back = Some (pos n)
+whole_by (head.Negative n) back = Some (negsuc n)
+whole_by _ back = None
+
+-- a whole number, of major type 0 or 1
+unfoldable pub whole_of : List ℕ → Option ℤ
+whole_of bytes = by_head whole_by None bytes
+
+abbrev pub bytes_by : Head → List ℕ → Option (List ℕ)
+bytes_by (head.Bytes n) back = Some back
+bytes_by _ back = None
+
+unfoldable pub bytes_of : List ℕ → Option (List ℕ)
+bytes_of bytes = by_head bytes_by None bytes
+
+abbrev pub text_by : Head → List ℕ → Option (List ℕ)
+text_by (head.Text n) back = Some back
+text_by _ back = None
+
+unfoldable pub text_of : List ℕ → Option (List ℕ)
+text_of bytes = by_head text_by None bytes
+
+abbrev pub if_utf8 : List ℕ → Option (List ℕ)
+if_utf8 text = if is_utf8 text then Some text else None
+
+-- a text that is UTF-8
+unfoldable pub utf8_text_of : List ℕ → Option (List ℕ)
+utf8_text_of bytes = option_and_then if_utf8 (text_of bytes)
+
+abbrev pub tag_by : Head → List ℕ → Option (ℕ × List ℕ)
+tag_by (head.Tag n) back = Some (n, back)
+tag_by _ back = None
+
+-- a tag, and the item that it is on
+unfoldable pub tag_of : List ℕ → Option (ℕ × List ℕ)
+tag_of bytes = by_head tag_by None bytes
+
+abbrev pub simple_truth : ℕ → Option Bool
+simple_truth n = if n == 20 then Some false else if n == 21 then Some true else None
+
+abbrev pub truth_by : Head → List ℕ → Option Bool
+truth_by (head.Simple n) back = simple_truth n
+truth_by _ back = None
+
+unfoldable pub truth_of : List ℕ → Option Bool
+truth_of bytes = by_head truth_by None bytes
+
+abbrev pub simple_kind : ℕ → Kind
+simple_kind n = if n == 20 then kind.Truth else if n == 21 then kind.Truth else if n == 22 then kind.Null else kind.Other
+
+abbrev pub kind_by : Head → List ℕ → Kind
+kind_by (head.Unsigned n) back = kind.Whole
+kind_by (head.Negative n) back = kind.Whole
+kind_by (head.Bytes n) back = kind.Bytes
+kind_by (head.Text n) back = kind.Text
+kind_by (head.List n) back = kind.List
+kind_by (head.Map n) back = kind.Map
+kind_by (head.Tag n) back = kind.Tag
+kind_by (head.Simple n) back = simple_kind n
+kind_by head.Float back = kind.Other
+kind_by head.Break back = kind.Other
+
+unfoldable pub kind_of : List ℕ → Kind
+kind_of bytes = by_head kind_by kind.Other bytes
+
+abbrev pub list_by : Head → List ℕ → List ℕ
+list_by (head.List (Some n)) back = back
+list_by (head.List None) back = before_break back
+list_by _ back = []
+
+-- the bytes of a list's elements, one after another
+unfoldable pub elements_of : List ℕ → List ℕ
+elements_of bytes = by_head list_by [] bytes
+
+-- the elements of a list, in written order
+abbrev pub items_of : List ℕ → List (List ℕ)
+items_of bytes = items_in (elements_of bytes)
+
+abbrev pub map_by : Head → List ℕ → List ℕ
+map_by (head.Map (Some n)) back = back
+map_by (head.Map None) back = before_break back
+map_by _ back = []
+
+-- the bytes of a map's keys and values, one after another
+unfoldable pub pairs_of : List ℕ → List ℕ
+pairs_of bytes = by_head map_by [] bytes
+
+-- keys and values in turn, as pairs
+abbrev pub pair_up : List (List ℕ) → List (List ℕ × List ℕ)
+pair_up [] = []
+pair_up (key ∷ []) = []
+pair_up (key ∷ value ∷ items) = (key, value) ∷ pair_up items
+
+-- the entries of a map, in written order
+abbrev pub entries_of : List ℕ → List (List ℕ × List ℕ)
+entries_of bytes = pair_up (items_in (pairs_of bytes))
+
+-- Is the item this text?
+abbrev pub is_text : List ℕ → List ℕ → Bool
+is_text name bytes = option_map_or (λ text. bytes_eq text name) (text_of bytes) false
+
+-- the value of the first key that is this text
+abbrev pub find_in : List ℕ → List (List ℕ × List ℕ) → Option (List ℕ)
+find_in name [] = None
+find_in name (entry ∷ entries) = if is_text name entry.0 then Some entry.1 else find_in name entries
+
+abbrev pub inside_by : Head → List ℕ → List ℕ
+inside_by (head.List (Some n)) back = back
+inside_by (head.List None) back = before_break back
+inside_by (head.Map (Some n)) back = back
+inside_by (head.Map None) back = before_break back
+inside_by (head.Tag n) back = back
+inside_by _ back = []
+
+-- the bytes of the items directly inside an item, one after another
+unfoldable pub inside_of : List ℕ → List ℕ
+inside_of bytes = by_head inside_by [] bytes

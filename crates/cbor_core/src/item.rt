@@ -1,0 +1,286 @@
+//! An item, which is its own bytes, and what stands in it.
+
+ghost use Rattle.cbor_core.specs.Head.{Gives};
+ghost use Rattle.cbor_core.specs.Item.{item_at};
+ghost use Rattle.std.specs.Prelude.{◌≡◌, ◌≤◌, ◌<◌, ◌^◌, length, IfOk, IsTrue, MatchOption, option_map, None, ℕ, List};
+ghost use Rattle.std.specs.Option.{option_copied};
+ghost use Rattle.std.specs.Iterator.{YieldsFirstBy, item_count};
+ghost use Rattle.cbor_core.specs.Views.{is_item, items_in, whole_of, bytes_of, text_of, tag_of, truth_of, kind_of, elements_of, items_of, pairs_of, entries_of, pair_up, find_in, inside_of, before, before_break, if_utf8, utf8_text_of};
+
+use crate::head::{Fault, Head, MAX_DEPTH, head_at};
+use crate::kind::Kind;
+use crate::walk::skip;
+use std::str;
+
+/// An item, as the bytes of its encoding where they lie. No call on it takes memory.
+///
+/// Looking at the elements of a list or the entries of a map goes over their bytes.
+#[derive(Clone, Copy)]
+pub struct Item<'a> {
+    bytes: &'a [u8],
+    ghost item: { IsTrue (is_item bytes.now) },
+}
+
+impl<'a> Item<'a> {
+    ghost use Rattle.cbor_core.specs.Seen.{span_of, items_left, entries_left};
+
+    /// The item at the front, and the bytes after it.
+    pub(crate) fn first(bytes: &'a [u8], depth: u32) -> Result<(Item<'a>, &'a [u8]), Fault>
+        requires { depth ≤ MAX_DEPTH }
+        ensures rest { Gives (λ x. x.1.now) result (item_at depth bytes.now) }
+        ensures front { IfOk result (λ x. x.0.bytes.now ≡ before x.1.now bytes.now) }
+    {
+        let after = skip(bytes, depth)?;
+        let front = &bytes[..bytes.len() - after.len()];
+        Ok((Item { bytes: front }, after))
+    }
+
+    /// The item's own bytes.
+    pub fn span(self) -> &'a [u8]
+        ensures { result.now ≡ span_of self.entry }
+    {
+        self.bytes
+    }
+
+    /// What the item is.
+    #[tactic(auto, unfolding(crate::specs::Views::kind_of))]
+    pub fn kind(self) -> Kind
+        ensures { result ≡ kind_of (span_of self.entry) }
+    {
+        let Ok((head, _)) = head_at(self.bytes) else {
+            return Kind::Other;
+        };
+        match head {
+            Head::Unsigned(_) | Head::Negative(_) => Kind::Whole,
+            Head::Bytes(_) => Kind::Bytes,
+            Head::Text(_) => Kind::Text,
+            Head::List(_) => Kind::List,
+            Head::Map(_) => Kind::Map,
+            Head::Tag(_) => Kind::Tag,
+            Head::Simple(20 | 21) => Kind::Truth,
+            Head::Simple(22) => Kind::Null,
+            _ => Kind::Other,
+        }
+    }
+
+    /// The whole number that the item is, if it is one: from -2^64 to 2^64 - 1.
+    #[tactic(auto, unfolding(crate::specs::Views::whole_of))]
+    pub fn whole(self) -> Option<i128>
+        ensures { result ≡ whole_of (span_of self.entry) }
+    {
+        let Ok((head, _)) = head_at(self.bytes) else {
+            return None;
+        };
+        match head {
+            Head::Unsigned(n) => Some(i128::from(n)),
+            Head::Negative(n) => Some(-1 - i128::from(n)),
+            _ => None,
+        }
+    }
+
+    /// The truth value that the item is, if it is one.
+    #[tactic(auto, unfolding(crate::specs::Views::truth_of))]
+    pub fn truth(self) -> Option<bool>
+        ensures { result ≡ truth_of (span_of self.entry) }
+    {
+        let Ok((head, _)) = head_at(self.bytes) else {
+            return None;
+        };
+        match head {
+            Head::Simple(20) => Some(false),
+            Head::Simple(21) => Some(true),
+            _ => None,
+        }
+    }
+
+    /// The content of the byte string that the item is, if it is one.
+    #[tactic(auto, unfolding(crate::specs::Views::bytes_of))]
+    pub fn bytes(self) -> Option<&'a [u8]>
+        ensures { option_map (λ b. b.now) result ≡ bytes_of (span_of self.entry) }
+    {
+        let Ok((head, back)) = head_at(self.bytes) else {
+            return None;
+        };
+        match head {
+            Head::Bytes(_) => Some(back),
+            _ => None,
+        }
+    }
+
+    /// The elements of a list, in written order, and nothing for any other item.
+    #[tactic(auto, unfolding(crate::specs::Views::elements_of), using(crate::proofs::Counts::items_count))]
+    pub fn items(self) -> Items<'a>
+        ensures left { items_left result ≡ items_of (span_of self.entry) }
+        ensures count { length (items_left result) < 2 ^ 64 }
+    {
+        let Ok((head, back)) = head_at(self.bytes) else {
+            return Items { rest: &[] };
+        };
+        match head {
+            Head::List(Some(_)) => Items { rest: back },
+            Head::List(None) => Items {
+                rest: before_break(back),
+            },
+            _ => Items { rest: &[] },
+        }
+    }
+
+    /// The bytes of a text.
+    #[tactic(auto, unfolding(crate::specs::Views::text_of))]
+    pub(crate) fn text_bytes(self) -> Option<&'a [u8]>
+        ensures { option_map (λ b. b.now) result ≡ text_of (span_of self.entry) }
+    {
+        let Ok((head, back)) = head_at(self.bytes) else {
+            return None;
+        };
+        match head {
+            Head::Text(_) => Some(back),
+            _ => None,
+        }
+    }
+
+    /// The text that the item is, if it is one.
+    #[tactic(auto, unfolding(crate::specs::Views::utf8_text_of))]
+    pub fn text(self) -> Option<&'a str>
+        ensures { option_map (λ s. s.now) result ≡ utf8_text_of (span_of self.entry) }
+    {
+        match self.text_bytes() {
+            Some(text) => utf8_text(text),
+            None => None,
+        }
+    }
+
+    /// The number of a tag and the item that it stands on, if the item is a tag.
+    #[tactic(auto, unfolding(crate::specs::Views::tag_of))]
+    pub fn tag(self) -> Option<(u64, Item<'a>)>
+        ensures { option_map (λ t. (t.0, span_of t.1)) result ≡ tag_of (span_of self.entry) }
+    {
+        let Ok((head, back)) = head_at(self.bytes) else {
+            return None;
+        };
+        match head {
+            Head::Tag(n) => Some((n, Item { bytes: back })),
+            _ => None,
+        }
+    }
+
+    /// The keys and values of a map, in written order, and nothing for any other item.
+    #[tactic(auto, unfolding(crate::specs::Views::pairs_of), using(crate::proofs::Counts::entries_count))]
+    pub fn entries(self) -> Entries<'a>
+        ensures left { entries_left result ≡ entries_of (span_of self.entry) }
+        ensures count { length (entries_left result) < 2 ^ 64 }
+    {
+        let Ok((head, back)) = head_at(self.bytes) else {
+            return Entries::of(&[]);
+        };
+        match head {
+            Head::Map(Some(_)) => Entries::of(back),
+            Head::Map(None) => Entries::of(before_break(back)),
+            _ => Entries::of(&[]),
+        }
+    }
+
+    /// The items directly inside, whatever the item is.
+    #[tactic(auto, unfolding(crate::specs::Views::inside_of))]
+    pub(crate) fn inside(self) -> Items<'a>
+        ensures { items_left result ≡ items_in (inside_of (span_of self.entry)) }
+    {
+        let Ok((head, back)) = head_at(self.bytes) else {
+            return Items { rest: &[] };
+        };
+        match head {
+            Head::List(Some(_)) | Head::Map(Some(_)) | Head::Tag(_) => Items { rest: back },
+            Head::List(None) | Head::Map(None) => Items {
+                rest: before_break(back),
+            },
+            _ => Items { rest: &[] },
+        }
+    }
+
+    /// The value of the key that is this text, if the item is a map that has one.
+    pub fn find(self, name: &str) -> Option<Item<'a>>
+        ensures { option_map (λ i. span_of i) result ≡ find_in name.now (entries_of (span_of self.entry)) }
+    {
+        for (key, value) in self.entries() {
+            if let Some(text) = key.text_bytes()
+                && text == name.as_bytes()
+            {
+                return Some(value);
+            }
+        }
+        None
+    }
+}
+
+/// The bytes without the break at their end.
+fn before_break(bytes: &[u8]) -> &[u8]
+    ensures { result.now ≡ before_break bytes.now }
+{
+    &bytes[..bytes.len().saturating_sub(1)]
+}
+
+/// The bytes as a text, if they are UTF-8.
+fn utf8_text(bytes: &[u8]) -> Option<&str>
+    ensures { option_map (λ s. s.now) result ≡ if_utf8 bytes.now }
+{
+    match str::from_utf8(bytes) {
+        Ok(text) => Some(text),
+        Err(_) => None,
+    }
+}
+
+/// The elements of a list that are left.
+#[derive(Clone, Copy)]
+pub struct Items<'a> {
+    rest: &'a [u8],
+}
+
+impl<'a> Iterator for Items<'a> {
+    type Item = Item<'a>;
+
+    ghost next_gives = { YieldsFirstBy (λ i. i.bytes.now) (λ s. items_in s.rest.now) };
+
+    ghost remaining = { item_count (λ s. items_in s.rest.now) };
+
+    fn next(&mut self) -> Option<Item<'a>> {
+        if self.rest.is_empty() {
+            return None;
+        }
+        let Ok(after) = skip(self.rest, MAX_DEPTH) else {
+            return None;
+        };
+        let (front, rest) = self.rest.split_at(self.rest.len() - after.len());
+        self.rest = rest;
+        Some(Item { bytes: front })
+    }
+}
+
+/// The entries of a map that are left.
+#[derive(Clone, Copy)]
+pub struct Entries<'a> {
+    items: Items<'a>,
+}
+
+impl<'a> Entries<'a> {
+    fn of(rest: &'a [u8]) -> Entries<'a>
+        ensures { result.items.rest.now ≡ rest.now }
+    {
+        Entries {
+            items: Items { rest },
+        }
+    }
+}
+
+impl<'a> Iterator for Entries<'a> {
+    type Item = (Item<'a>, Item<'a>);
+
+    ghost next_gives = { YieldsFirstBy (λ e. (e.0.bytes.now, e.1.bytes.now)) (λ s. pair_up (items_in s.items.rest.now)) };
+
+    ghost remaining = { item_count (λ s. pair_up (items_in s.items.rest.now)) };
+
+    fn next(&mut self) -> Option<(Item<'a>, Item<'a>)> {
+        let key = self.items.next()?;
+        let value = self.items.next()?;
+        Some((key, value))
+    }
+}

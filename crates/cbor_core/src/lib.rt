@@ -1,0 +1,22 @@
+//! CBOR items (RFC 8949), read where they lie and written in the one deterministic way.
+#![tactic(auto)]
+
+mod error;
+mod head;
+mod item;
+mod key;
+mod kind;
+pub mod laws;
+mod order;
+mod read;
+#[cfg(test)]
+mod tests;
+mod walk;
+mod writer;
+
+pub use error::{Error, NoMemory};
+pub use head::MAX_DEPTH;
+pub use item::{Entries, Item, Items};
+pub use kind::Kind;
+pub use read::read_one;
+pub use writer::Writer;

@@ -1,0 +1,115 @@
+//! Reading one item.
+
+ghost use Rattle.std.specs.Prelude.{◌≡◌, ◌≤◌, None, IfOk, IfErr};
+ghost use Rattle.std.specs.Str.{is_utf8 as utf8_test};
+ghost use Rattle.cbor_core.specs.Seen.{span_of};
+ghost use Rattle.cbor_core.specs.Rules.{each_inside, is_fine_text, is_fine_map, rule_of, broken_rule};
+ghost use Rattle.cbor_core.specs.Refusal.{IsRefusal};
+
+use crate::error::{Error, NoMemory};
+use crate::head::{Fault, MAX_DEPTH};
+use crate::item::Item;
+use crate::key::are_keys_different;
+use std::alloc::Global;
+use std::str;
+
+/// Are the bytes UTF-8?
+fn is_utf8(bytes: &[u8]) -> bool
+    ensures { result ≡ utf8_test bytes.now }
+{
+    match str::from_utf8(bytes) {
+        Ok(_) => true,
+        Err(_) => false,
+    }
+}
+
+/// Is the item no text that is not UTF-8?
+#[tactic(auto, unfolding(crate::specs::Rules::is_fine_text))]
+fn is_text_fine(item: Item) -> bool
+    ensures { result ≡ is_fine_text (span_of item.entry) }
+{
+    match item.text_bytes() {
+        Some(text) => is_utf8(text),
+        None => true,
+    }
+}
+
+/// Is each text in the item UTF-8?
+#[tactic(auto, using(crate::proofs::Inside::each_fails, crate::proofs::Inside::each_flat, crate::proofs::Inside::each_deep))]
+fn texts_are_utf8(item: Item, depth: u32) -> bool
+    ensures { result ≡ each_inside is_fine_text depth (span_of item.entry) }
+{
+    if !is_text_fine(item) {
+        return false;
+    }
+    if depth == 0 {
+        return true;
+    }
+    for part in item.inside() {
+        if !texts_are_utf8(part, depth - 1) {
+            return false;
+        }
+    }
+    true
+}
+
+/// Do the keys of each map in the item differ?
+#[tactic(auto, using(crate::proofs::Inside::each_fails, crate::proofs::Inside::each_flat, crate::proofs::Inside::each_deep))]
+fn maps_are_fine(alloc: Global, item: Item, depth: u32) -> Result<bool, NoMemory>
+    ensures { IfOk result (λ fine. fine ≡ each_inside is_fine_map depth (span_of item.entry)) }
+{
+    if !are_keys_different(alloc, item.entries())? {
+        return Ok(false);
+    }
+    if depth == 0 {
+        return Ok(true);
+    }
+    for part in item.inside() {
+        if !maps_are_fine(alloc, part, depth - 1)? {
+            return Ok(false);
+        }
+    }
+    Ok(true)
+}
+
+fn rule_of(fault: Fault) -> u8
+    ensures { result ≡ rule_of fault }
+{
+    match fault {
+        Fault::Short => 1,
+        Fault::Reserved => 2,
+        Fault::Chunked => 3,
+        Fault::Deep => 6,
+    }
+}
+
+/// The one CBOR item (RFC 8949) that the bytes are, in which at most `depth` lists, maps and tags lie
+/// inside one another. Heads may have any length, and lists and maps may be indefinite.
+///
+/// # Errors
+///
+/// `Refused` with the least broken rule: 1 the bytes end within the item, 2 a reserved head, 3 a
+/// string in chunks, 4 a text that is not UTF-8, 5 a key doubled in a map, 6 more lists, maps and
+/// tags inside one another than `depth`, 7 bytes are left over. Of 1, 2, 3 and 6, which are found
+/// head by head from the front, the one that is met first. And want of memory.
+#[tactic(auto, unfolding(crate::specs::Rules::broken_rule), using(crate::proofs::Inside::before_nothing))]
+pub fn read_one<'a>(alloc: Global, bytes: &'a [u8], depth: u32) -> Result<Item<'a>, Error>
+    requires { depth ≤ MAX_DEPTH }
+    ensures found { IfOk result (λ item. (broken_rule depth bytes.now ≡ None) × (span_of item ≡ bytes.now)) }
+    ensures refused { IfErr result (λ e. IsRefusal e (broken_rule depth bytes.now)) }
+{
+    let (item, rest) = match Item::first(bytes, depth) {
+        Ok(first) => first,
+        Err(fault) => return Err(Error::Refused(rule_of(fault))),
+    };
+    if !texts_are_utf8(item, depth) {
+        return Err(Error::Refused(4));
+    }
+    if !maps_are_fine(alloc, item, depth)? {
+        return Err(Error::Refused(5));
+    }
+    if !rest.is_empty() {
+        return Err(Error::Refused(7));
+    }
+    Ok(item)
+}

@@ -1,0 +1,9 @@
+-- What an error says of the result that was wanted.
+use Rattle.std.specs.Prelude.{◌≡◌, ℕ, Result, Err, ⊤}
+use Rattle.dcql_query.specs.declared.error.Error.{Error}
+use Rattle.dcql_query.specs.declared.error.Error.TheVariants.{Refused, NoMemory}
+
+-- The error names the least broken rule, or memory was wanting.
+abbrev pub IsRefusal : {A : Type 0} → Result A ℕ → Error → Type 0
+IsRefusal wanted (Refused n) = wanted ≡ Err n
+IsRefusal wanted NoMemory = ⊤

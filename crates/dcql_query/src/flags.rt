@@ -1,0 +1,28 @@
+// Truth values that may be absent.
+ghost use Rattle.std.specs.Prelude.{◌≡◌, option_map};
+ghost use Rattle.serde_json.specs.View.{view};
+ghost use Rattle.json_forms.specs.Look.{is_wrong};
+ghost use Rattle.dcql_query.specs.Meaning.{flag_at};
+ghost use Rattle.dcql_query.specs.Table.{is_bool};
+
+use serde_json::Value;
+
+// Whether it is there and no truth value.
+pub(crate) fn is_no_bool(value: Option<&Value>) -> bool
+    ensures { result ≡ is_wrong is_bool (option_map (λ v. view v.now) value.entry) }
+{
+    match value {
+        Some(value) => !value.is_boolean(),
+        None => false,
+    }
+}
+
+// The truth value at a name, or `usual` where none is there.
+pub(crate) fn flag_at(value: &Value, name: &str, usual: bool) -> bool
+    ensures { result ≡ flag_at name.now usual (view value.now) }
+{
+    match value.get(name) {
+        Some(flag) => flag.as_bool().unwrap_or(usual),
+        None => usual,
+    }
+}

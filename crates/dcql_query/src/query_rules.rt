@@ -1,0 +1,54 @@
+// The rules of a whole query, and the least that is broken.
+ghost use Rattle.std.specs.Prelude.{◌≡◌, map};
+ghost use Rattle.serde_json.specs.View.{view};
+ghost use Rattle.dcql_query.specs.Table.{least_credential_rule, query_rule};
+
+use crate::credential_rules::credential_rule;
+use crate::credential_sets::{has_wrong_credential_sets, knows_all_options};
+use crate::ids::{all_have_right_ids, has_equal_ids};
+use json_forms::elements_at;
+use rule_tables::lesser;
+use serde_json::Value;
+
+// The most credential queries of a query.
+const MOST_QUERIES: usize = 16;
+
+// The least rule that a query breaks.
+#[tactic(auto, unfolding(rule_tables::specs::Rules::rule))]
+pub(crate) fn query_rule(value: &Value) -> Option<u8>
+    ensures { result ≡ query_rule (view value.now) }
+{
+    let queries = elements_at(value, "credentials");
+    if queries.is_empty() {
+        return Some(1);
+    }
+    if queries.len() > MOST_QUERIES {
+        return Some(2);
+    }
+    if !all_have_right_ids(queries) {
+        return Some(3);
+    }
+    if has_equal_ids(queries) {
+        return Some(4);
+    }
+    if let Some(rule) = least_credential_rule(queries) {
+        return Some(rule);
+    }
+    if has_wrong_credential_sets(value) {
+        return Some(21);
+    }
+    if !knows_all_options(queries, elements_at(value, "credential_sets")) {
+        return Some(22);
+    }
+    None
+}
+
+fn least_credential_rule(queries: &[Value]) -> Option<u8>
+    ensures { result ≡ least_credential_rule (map view queries.now) }
+{
+    let mut least = None;
+    for query in queries {
+        least = lesser(least, credential_rule(query));
+    }
+    least
+}

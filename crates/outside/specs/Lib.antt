@@ -1,0 +1,6 @@
+pub mod Causes
+pub mod MemorySink
+pub mod MemoryStore
+pub mod Sink
+pub mod Status
+pub mod Store

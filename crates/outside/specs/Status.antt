@@ -1,0 +1,16 @@
+-- The exit status of each way to end.
+use Rattle.std.specs.Prelude.{ℕ}
+use Rattle.outside.specs.declared.status.Status.{Status}
+use Rattle.outside.specs.declared.status.Status.TheVariants.{Done, Usage, RequestRefused, NoOption, ReadFault, WriteFault, FileRefused, TooLong, NoMemory, NotOne}
+
+abbrev pub code_of : Status → ℕ
+code_of Done = 0
+code_of Usage = 2
+code_of RequestRefused = 3
+code_of NoOption = 5
+code_of ReadFault = 6
+code_of WriteFault = 7
+code_of FileRefused = 12
+code_of TooLong = 14
+code_of NoMemory = 15
+code_of NotOne = 17

@@ -1,0 +1,48 @@
+// How a program ends.
+ghost use Rattle.std.specs.Prelude.{◌≡◌};
+ghost use Rattle.outside.specs.Status.{code_of};
+
+/// How a program ends.
+#[derive(Clone, Copy, Debug, PartialEq, Eq)]
+pub enum Status {
+    /// All was done as defined.
+    Done,
+    /// The words are no command.
+    Usage,
+    /// The request or the query breaks a rule.
+    RequestRefused,
+    /// There is nothing to choose from.
+    NoOption,
+    /// A file could not be read.
+    ReadFault,
+    /// The text could not be written.
+    WriteFault,
+    /// A line of a file is not of the file's form.
+    FileRefused,
+    /// A file has more bytes than its limit.
+    TooLong,
+    /// Want of memory.
+    NoMemory,
+    /// The query has not one credential query.
+    NotOne,
+}
+
+impl Status {
+    /// The exit status of the program. Takes no memory.
+    pub fn code(self) -> u8
+        ensures { result ≡ code_of self }
+    {
+        match self {
+            Status::Done => 0,
+            Status::Usage => 2,
+            Status::RequestRefused => 3,
+            Status::NoOption => 5,
+            Status::ReadFault => 6,
+            Status::WriteFault => 7,
+            Status::FileRefused => 12,
+            Status::TooLong => 14,
+            Status::NoMemory => 15,
+            Status::NotOne => 17,
+        }
+    }
+}

@@ -1,0 +1,16 @@
+-- The statuses that a command chooses itself, once its words are read and no object has failed.
+use Rattle.std.specs.Prelude.{Bool, true, false}
+use Rattle.outside.specs.declared.status.Status.{Status}
+use Rattle.outside.specs.declared.status.Status.TheVariants.{Done, Usage, RequestRefused, NoOption, ReadFault, WriteFault, FileRefused, TooLong, NoMemory, NotOne}
+
+abbrev pub is_own : Status → Bool
+is_own Done = true
+is_own Usage = false
+is_own RequestRefused = true
+is_own NoOption = true
+is_own ReadFault = false
+is_own WriteFault = false
+is_own FileRefused = true
+is_own TooLong = true
+is_own NoMemory = false
+is_own NotOne = true

@@ -1,0 +1,40 @@
+// What ends a command early.
+ghost use Rattle.std.specs.Prelude.{◌≡◌};
+ghost use Rattle.program_steps.specs.declared.stop.Stop.TheVariants.{NoMemory};
+
+use super::reply::Reply;
+use std::alloc::{AllocError, AllocFailed};
+
+/// An object that was passed in and failed.
+#[derive(Clone, Copy, Debug, PartialEq, Eq)]
+pub enum Fault {
+    /// The store.
+    Read,
+}
+
+/// What ends a command early.
+#[derive(Drop)]
+pub enum Stop {
+    /// A refusal, as it is printed.
+    Refused(Reply),
+    /// An object failed.
+    Failed(Fault),
+    /// Want of memory.
+    NoMemory,
+}
+
+impl From<AllocError> for Stop {
+    ghost from_gives = { λ _ e. e ≡ NoMemory };
+
+    fn from(_: AllocError) -> Self {
+        Stop::NoMemory
+    }
+}
+
+impl<T: Drop> From<AllocFailed<T>> for Stop {
+    ghost from_gives = { λ _ e. e ≡ NoMemory };
+
+    fn from(_: AllocFailed<T>) -> Self {
+        Stop::NoMemory
+    }
+}

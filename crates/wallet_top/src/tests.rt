@@ -1,0 +1,168 @@
+// Whole runs over forms in memory.
+use super::run;
+use outside::{MemorySink, MemoryStore, Status};
+use std::alloc::Global;
+use std::test::Fail;
+
+const QUERY: &str =
+    r#"{"credentials":[{"id":"a","format":"dc+sd-jwt","claims":[{"path":["given_name"]}]}]}"#;
+
+const TREES: &str = "{\"given_name\":\"Erika\"}\n{\"family_name\":\"M\"}\n{\"given_name\":null}\n";
+
+const MATCHES: &str = "match 0\nmatch 2\nend\n";
+
+// The query with other members in its credential query.
+fn query_with(alloc: Global, members: &str) -> Result<String, Fail> {
+    Ok(format!(in alloc; "{{\"credentials\":[{{\"id\":\"a\",\"format\":\"f\",{members}}}]}}")?)
+}
+
+fn words(alloc: Global, texts: &[&str]) -> Result<Vec<String>, Fail> {
+    let mut words = Vec::new(alloc);
+    for text in texts {
+        words.push(String::from_str(alloc, text)?)?;
+    }
+    Ok(words)
+}
+
+// Runs `try q t` over a store, with room for so many bytes.
+fn tried(alloc: Global, store: &mut MemoryStore, room: usize) -> Result<(Status, Vec<u8>), Fail> {
+    let words = words(alloc, &["try", "q", "t"])?;
+    let mut out = MemorySink::new(alloc, room)?;
+    let status = run(alloc, &words, store, &mut out);
+    Ok((status, Vec::from_slice(alloc, out.bytes())?))
+}
+
+fn stored(alloc: Global, query: &str, trees: &[u8]) -> Result<MemoryStore, Fail> {
+    let mut store = MemoryStore::new(alloc);
+    store.put("q", query.as_bytes())?;
+    store.put("t", trees)?;
+    Ok(store)
+}
+
+// One line that matches, padded to so many bytes.
+fn padded(alloc: Global, size: usize) -> Result<Vec<u8>, Fail> {
+    let mut bytes = Vec::from_slice(alloc, b"{\"given_name\":1}")?;
+    while bytes.len() < size {
+        bytes.push(b' ')?;
+    }
+    Ok(bytes)
+}
+
+fn lines(alloc: Global, count: usize) -> Result<Vec<u8>, Fail> {
+    let mut bytes = Vec::new(alloc);
+    for _ in 0..count {
+        bytes.extend_from_slice(b"0\n")?;
+    }
+    Ok(bytes)
+}
+
+#[test]
+fn runs(rt: HostRuntime) -> Result<(), Fail> {
+    let alloc = rt.alloc();
+    let two_names = query_with(alloc, r#""claims":[{"path":["a","b"]}]"#)?;
+    let two_sets = query_with(
+        alloc,
+        r#""claims":[{"id":"x","path":["x"]},{"id":"y","path":["y"]}],"claim_sets":[["x","y"],["y"]]"#,
+    )?;
+    let no_path = query_with(alloc, r#""claims":[{"path":[]}]"#)?;
+    let two_queries = r#"{"credentials":[{"id":"a","format":"f"},{"id":"b","format":"f"}]}"#;
+    let full = lines(alloc, 1024)?;
+    let too_many = lines(alloc, 1025)?;
+    let files: [(&str, &[u8], Status, &str); 15] = [
+        (QUERY, TREES.as_bytes(), Status::Done, MATCHES),
+        (QUERY, b"", Status::NoOption, "none\n"),
+        (
+            QUERY,
+            b"{}\n{\"given_name\":1}",
+            Status::Done,
+            "match 1\nend\n",
+        ),
+        (
+            QUERY,
+            b"{\"given_name\":1}\n{",
+            Status::FileRefused,
+            "file refused t 2\n",
+        ),
+        (QUERY, b"0\n\n", Status::FileRefused, "file refused t 2\n"),
+        (QUERY, b"0\n\xff", Status::FileRefused, "file refused t 1\n"),
+        ("{", b"{", Status::FileRefused, "file refused q 1\n"),
+        (
+            &two_names,
+            b"{\"a\":{\"b\":0}}\n{\"a\":\"b\"}\n",
+            Status::Done,
+            "match 0\nend\n",
+        ),
+        (
+            &two_sets,
+            b"{\"x\":0}\n{\"y\":0}\n",
+            Status::Done,
+            "match 1\nend\n",
+        ),
+        (
+            "{}",
+            TREES.as_bytes(),
+            Status::RequestRefused,
+            "refused query 1\n",
+        ),
+        (
+            &no_path,
+            TREES.as_bytes(),
+            Status::RequestRefused,
+            "refused query 14\n",
+        ),
+        (&no_path, b"{", Status::FileRefused, "file refused t 1\n"),
+        (two_queries, TREES.as_bytes(), Status::NotOne, "not one\n"),
+        (QUERY, &full, Status::NoOption, "none\n"),
+        (
+            QUERY,
+            &too_many,
+            Status::FileRefused,
+            "file refused t 1025\n",
+        ),
+    ];
+    for (query, trees, status, text) in files {
+        let mut store = stored(alloc, query, trees)?;
+        let (got, bytes) = tried(alloc, &mut store, 99)?;
+        assert_eq!(rt; got, status, "{query}");
+        assert_eq!(rt; bytes.as_slice(), text.as_bytes(), "{query}");
+    }
+    Ok(())
+}
+
+#[test]
+fn faults_and_limits(rt: HostRuntime) -> Result<(), Fail> {
+    let alloc = rt.alloc();
+    for (call, status, text) in [
+        (0, Status::ReadFault, "read fault\n"),
+        (1, Status::ReadFault, "read fault\n"),
+        (2, Status::Done, MATCHES),
+    ] {
+        let mut store = stored(alloc, QUERY, TREES.as_bytes())?;
+        store.fail_at(call)?;
+        let (got, bytes) = tried(alloc, &mut store, 99)?;
+        assert_eq!(rt; got, status);
+        assert_eq!(rt; bytes.as_slice(), text.as_bytes());
+    }
+    let mut store = stored(alloc, QUERY, TREES.as_bytes())?;
+    let (got, bytes) = tried(alloc, &mut store, 9)?;
+    assert_eq!(rt; got, Status::WriteFault);
+    assert_eq!(rt; bytes.as_slice(), b"match 0\nm".as_slice());
+    for (size, status, text) in [
+        (1_048_576, Status::Done, "match 0\nend\n"),
+        (1_048_577, Status::TooLong, "too long t\n"),
+    ] {
+        let mut store = stored(alloc, QUERY, &padded(alloc, size)?)?;
+        let (got, bytes) = tried(alloc, &mut store, 99)?;
+        assert_eq!(rt; got, status);
+        assert_eq!(rt; bytes.as_slice(), text.as_bytes());
+    }
+    let mut empty = MemoryStore::new(alloc);
+    assert_eq!(rt; tried(alloc, &mut empty, 99)?.0, Status::ReadFault);
+    let mut out = MemorySink::new(alloc, 99)?;
+    assert_eq!(rt;
+        run(alloc, &words(alloc, &["try", "q"])?, &mut empty, &mut out),
+        Status::Usage
+    );
+    assert_eq!(rt; out.bytes(), b"usage\n".as_slice());
+    Ok(())
+}
