@@ -7,6 +7,7 @@ mod disclosures;
 mod distinct;
 mod error;
 mod facts;
+mod floats;
 mod marks;
 mod node;
 mod places;

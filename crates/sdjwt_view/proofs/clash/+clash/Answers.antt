@@ -10,7 +10,8 @@ use Rattle.sdjwt_view.proofs.clash.+clash.Goals as goal
 
 pub has_clash-returns-else-has_plain : goal.has_clash-returns-else-has_plain
 has_clash-returns-else-has_plain t c =
-    let apart : differ (map (λ s. s.now) c.in_ok-names-in-Object.names.items) ≡ true = ap (λ ns. differ (map (λ s. s.now) ns)) (sym c.deref.ensures.value) ∙ sym c.differ.ensures ∙ c.if-not-differ.false in
+    let apart : differ (map (λ s. s.now) c.in_ok-names-in-Object.names.items) ≡ true =
+    ap (λ ns. differ (map (λ s. s.now) ns)) (sym c.deref.ensures.value) ∙ sym c.in_ok-are_distinct-in-Object.ensures ∙ c.if-not-branch.false in
     let new : list_any (λ k. is_some (get_member k (members_view c.in-Object.object.entries))) (map (λ s. s.now) c.in_ok-names-in-Object.names.items) ≡ false =
-    ap (λ ns. list_any (λ k. is_some (get_member k (members_view c.in-Object.object.entries))) (map (λ s. s.now) ns)) (sym c.deref-else-not-differ.ensures.value) ∙ sym c.has_plain.ensures ∙ c.if-has_plain.false in
+    ap (λ ns. list_any (λ k. is_some (get_member k (members_view c.in-Object.object.entries))) (map (λ s. s.now) ns)) (sym c.deref-else-not-branch.ensures.value) ∙ sym c.has_plain.ensures ∙ c.if-has_plain.false in
     subst (λ w. IfOk c.holds_clash.result (λ b. b ≡ w)) (clash_rest (all_said c.args.disclosures.now) c.args.value.now c.in-Object.object (map (λ s. s.now) c.in_ok-names-in-Object.names.items) c.in-Object.is apart new c.in_ok-names-in-Object.ensures) c.holds_clash.ensures
