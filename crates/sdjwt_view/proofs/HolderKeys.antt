@@ -31,6 +31,7 @@ not_true true h = cc
 not_true false h = refl
 
 pub key_is_whole : (payload cnf jwk : Data) → facts_rule payload ≡ None → get (codes "cnf") payload ≡ Some cnf → get (codes "jwk") cnf ≡ Some jwk → has_float jwk ≡ false
+unfolding facts_rule
 key_is_whole payload cnf jwk e here there =
     let holder : is_holder cnf ≡ true = right_there is_holder (get (codes "cnf") payload) cnf here (third _ _ _ e) in
     let inside = (and_parts (is_object cnf) (not (is_wrong is_key (get (codes "jwk") cnf))) holder).1 in

@@ -6,3 +6,4 @@ pub mod Claims
 pub mod ValueClaims
 pub mod NodeParts
 pub mod HolderKeys
+pub mod PlacingSteps

@@ -25,7 +25,7 @@ abbrev pub is_holder : Data → Bool
 is_holder cnf = is_object cnf && not (is_wrong is_key (get (codes "jwk") cnf))
 
 -- rules 15 to 17
-abbrev pub facts_rule : Data → Option ℕ
+unfoldable pub facts_rule : Data → Option ℕ
 facts_rule payload = first
     (rule 15 (is_none (text_at (codes "vct") payload))
     ∷ rule 16 (is_wrong is_moment (get (codes "nbf") payload) || is_wrong is_moment (get (codes "exp") payload))

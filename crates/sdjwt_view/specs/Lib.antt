@@ -3,6 +3,7 @@ pub mod Places
 pub mod Spelling
 pub mod Placing
 pub mod Facts
+pub mod Reading
 pub mod Nodes
 pub mod Said
 pub mod Named

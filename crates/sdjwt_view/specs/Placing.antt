@@ -25,34 +25,40 @@ abbrev pub top_names : List Disclosed → Data → List Utf8
 top_names ls d = elim (as_object d) [ None ↦ [] | Some ms ↦ disclosed_names ls (own_digests ms) ]
 
 -- rules 7 and 8, and that of credentials whose disclosures do not all lie directly under the payload
-abbrev pub marks_rule : Data → List Disclosed → Option ℕ
+unfoldable pub marks_rule : Data → List Disclosed → Option ℕ
 marks_rule payload ls = first
     (rule 7 (list_any names_mark ls)
     ∷ rule 8 (not (is_sound payload && list_all (λ l. is_sound l.value) ls))
     ∷ rule 18 (has_inner_mark payload || list_any (λ l. has_mark l.value) ls)
     ∷ [])
 
--- rules 9 and 10
-abbrev pub places_rule : Data → List Disclosed → Option ℕ
-places_rule payload ls = first
-    (rule 9 (not (differ (map digest_at (all_places payload ls))))
-    ∷ rule 10 (not (are_placed payload ls))
-    ∷ [])
+-- two places hold equal digests
+unfoldable pub double_rule : Data → List Disclosed → Option ℕ
+double_rule payload ls = rule 9 (not (differ (map digest_at (all_places payload ls))))
 
--- rules 11 to 13
+-- a disclosure has no place of its own
+unfoldable pub reach_rule : Data → List Disclosed → Option ℕ
+reach_rule payload ls = rule 10 (not (are_placed payload ls))
+
 abbrev pub any_clash : Data → List Disclosed → Bool
 any_clash payload ls = has_clash ls payload || list_any (λ l. has_clash ls l.value) ls
 
-abbrev pub names_rule : Data → List Disclosed → Option ℕ
+-- a disclosure is of the wrong kind for its place, a name comes twice, or is one that no disclosure may bring
+unfoldable pub names_rule : Data → List Disclosed → Option ℕ
 names_rule payload ls = first
     (rule 11 (list_any (is_mismatch ls) (all_places payload ls))
     ∷ rule 12 (any_clash payload ls)
     ∷ rule 13 (list_any (λ k. is_among k reserved) (top_names ls payload))
     ∷ [])
 
--- rule 14: too many lists and records inside one another
-abbrev pub depth_rule : Data → List Disclosed → Option ℕ
+-- too many lists and records inside one another
+unfoldable pub depth_rule : Data → List Disclosed → Option ℕ
 depth_rule payload ls = rule 14 (is_none (spelled_payload ls payload))
 
-abbrev pub placing_rule : Data → List Disclosed → Option ℕ
-placing_rule payload ls = first (marks_rule payload ls ∷ places_rule payload ls ∷ names_rule payload ls ∷ depth_rule payload ls ∷ [])
+-- rules 10 to 14
+abbrev pub own_place_rule : Data → List Disclosed → Option ℕ
+own_place_rule payload ls = first (reach_rule payload ls ∷ names_rule payload ls ∷ depth_rule payload ls ∷ [])
+
+-- rules 7 to 14
+unfoldable pub placing_rule : Data → List Disclosed → Option ℕ
+placing_rule payload ls = first (marks_rule payload ls ∷ double_rule payload ls ∷ own_place_rule payload ls ∷ [])

@@ -1,5 +1,5 @@
 // Each disclosure in its place, by the rules on places.
-ghost use Rattle.std.specs.Prelude.{◌≡◌, ◌++◌, IfOk, OnOk, map, not, option_map, is_some};
+ghost use Rattle.std.specs.Prelude.{◌≡◌, ◌++◌, true, IfOk, OnOk, map, option_map, is_some};
 ghost use Rattle.std.specs.List.{list_any, list_all};
 ghost use Rattle.std.specs.BTreeMap.{get_by};
 ghost use Rattle.std.specs.Ordering.{nat_cmp};
@@ -9,8 +9,8 @@ ghost use Rattle.sdjwt_view.specs.Disclosures.{is_among, differ};
 ghost use Rattle.sdjwt_view.specs.Held.{all_said, place_of};
 ghost use Rattle.sdjwt_view.specs.Nodes.{named_of};
 ghost use Rattle.sdjwt_view.specs.Places.{all_places, values_places, digest_at, are_reached, has_clash};
-ghost use Rattle.sdjwt_view.specs.Placed.{IsPlaced};
-ghost use Rattle.sdjwt_view.specs.Placing.{reserved, top_names, any_clash, names_rule};
+ghost use Rattle.sdjwt_view.specs.Placed.{IsPlaced, IsOwnPlaced};
+ghost use Rattle.sdjwt_view.specs.Placing.{reserved, top_names, any_clash, double_rule, names_rule};
 ghost use Rattle.sdjwt_view.specs.Said.{said};
 ghost use Rattle.sdjwt_view.specs.Spelling.{spelled_payload};
 
@@ -37,29 +37,37 @@ pub enum Placed {
 }
 
 /// Puts each disclosure into its place in the payload.
-pub fn place(
-    alloc: Global,
-    payload: &Value,
-    list: Vec<Disclosure>,
-) -> Result<Placed, AllocError>
+pub fn place(alloc: Global, payload: &Value, list: Vec<Disclosure>) -> Result<Placed, AllocError>
     ensures { IfOk result (λ placed. IsPlaced (view payload.now) (map said list.items) placed) }
 {
     if let Some(rule) = marks_rule(payload, &list) {
         return Ok(Placed::Broken(rule));
     }
-    if has_double_place(alloc, payload, &list)? {
-        return Ok(Placed::Broken(9));
-    }
-    let Some(disclosures) = Disclosures::new(alloc, list)? else {
-        return Ok(Placed::Broken(10));
-    };
-    if !are_reached(alloc, payload, &disclosures)? {
-        return Ok(Placed::Broken(10));
-    }
-    if let Some(rule) = names_rule(alloc, payload, &disclosures)? {
+    if let Some(rule) = double_rule(alloc, payload, &list)? {
         return Ok(Placed::Broken(rule));
     }
-    match spell_payload(alloc, payload, &disclosures)? {
+    match Disclosures::new(alloc, list)? {
+        Some(disclosures) => place_own(alloc, payload, &disclosures),
+        None => Ok(Placed::Broken(10)),
+    }
+}
+
+// The same where no rule before the tenth is broken, and the disclosures' digests differ.
+fn place_own(
+    alloc: Global,
+    payload: &Value,
+    disclosures: &Disclosures,
+) -> Result<Placed, AllocError>
+    requires { differ (map (λ l. l.digest) (all_said disclosures.now)) ≡ true }
+    ensures { IfOk result (λ placed. IsOwnPlaced (view payload.now) (all_said disclosures.now) placed) }
+{
+    if !are_reached(alloc, payload, disclosures)? {
+        return Ok(Placed::Broken(10));
+    }
+    if let Some(rule) = names_rule(alloc, payload, disclosures)? {
+        return Ok(Placed::Broken(rule));
+    }
+    match spell_payload(alloc, payload, disclosures)? {
         Some(members) => Ok(Placed::Tree(members)),
         None => Ok(Placed::Broken(14)),
     }
@@ -91,18 +99,23 @@ fn gather_values<'a>(
     Ok(())
 }
 
-// Whether two places hold equal digests.
-fn has_double_place(
+// The rule that two places break which hold equal digests.
+#[tactic(auto, unfolding(rule_tables::specs::Rules::rule, crate::specs::Placing::double_rule))]
+fn double_rule(
     alloc: Global,
     payload: &Value,
     list: &[Disclosure],
-) -> Result<bool, AllocError>
-    ensures { IfOk result (λ b. b ≡ not (differ (map digest_at (all_places (view payload.now) (map said list.now))))) }
+) -> Result<Option<u8>, AllocError>
+    ensures { IfOk result (λ o. o ≡ double_rule (view payload.now) (map said list.now)) }
 {
     let places = gather_all(alloc, payload, list)?;
     let mut digests = Vec::new(alloc);
     add_digests(&places, &mut digests)?;
-    Ok(!are_distinct(alloc, &digests)?)
+    if are_distinct(alloc, &digests)? {
+        Ok(None)
+    } else {
+        Ok(Some(9))
+    }
 }
 
 // Whether the digest of each disclosure stands in a place that is reached from the payload.
@@ -132,7 +145,7 @@ fn are_among(list: &[Disclosure], digests: &BTreeMap<&str, ()>) -> bool
 }
 
 // The first broken rule on the kinds and names of what is disclosed.
-#[tactic(auto, unfolding(rule_tables::specs::Rules::rule))]
+#[tactic(auto, unfolding(rule_tables::specs::Rules::rule, crate::specs::Placing::names_rule))]
 fn names_rule(
     alloc: Global,
     payload: &Value,

@@ -1,0 +1,70 @@
+-- The rules on places, one after another.
+use Rattle.std.proofs.Common.{◌≡◌, ℕ, suc, ◌+◌, Bool, true, false, not, ◌&&◌, List, [], ◌∷◌, length, map, Option, Some, None, option_map, option_and_then, refl, sym, ap, ap₂, ◌∙◌, subst}
+use Rattle.std.specs.Option.{is_none}
+use Rattle.std.specs.List.{list_all}
+use Rattle.serde_json.specs.Data.{Data}
+use Rattle.rule_tables.specs.Rules.{rule, first}
+use Rattle.sdjwt_view.specs.Disclosures.{Utf8, is_among, differ, Disclosed}
+use Rattle.sdjwt_view.specs.Places.{are_reached, are_placed}
+use Rattle.std.specs.Prelude.{IfOk, Result, Ok, Err}
+use Rattle.sdjwt_view.specs.Placing.{marks_rule, double_rule, reach_rule, depth_rule, own_place_rule, placing_rule}
+use Rattle.sdjwt_view.specs.Placed.{IsPlaced, IsOwnPlaced}
+use Rattle.sdjwt_view.specs.declared.placing.Placed.{Placed}
+use Rattle.sdjwt_view.specs.declared.placing.Placed.TheVariants.{Tree, Broken}
+use Rattle.sdjwt_view.specs.Spelling.{Named, spelled_payload}
+use Rattle.sdjwt_view.specs.Said.{said}
+use Rattle.sdjwt_view.specs.Named.{own_digest}
+use Rattle.sdjwt_view.specs.declared.disclosure.Disclosure.{Disclosure}
+
+pub first_here : (a : Option ℕ) (rest : List (Option ℕ)) (n : ℕ) → a ≡ Some n → first (a ∷ rest) ≡ Some n
+first_here a rest n e = ap (λ x. first (x ∷ rest)) e
+
+pub first_past : (a : Option ℕ) (rest : List (Option ℕ)) → a ≡ None → first (a ∷ rest) ≡ first rest
+first_past a rest e = ap (λ x. first (x ∷ rest)) e
+
+pub last_here : (a : Option ℕ) → first (a ∷ []) ≡ a
+last_here None = refl
+last_here (Some n) = refl
+
+pub digests_said : (ds : List Disclosure) → map (λ l. l.digest) (map said ds) ≡ map own_digest ds
+digests_said [] = refl
+digests_said (d ∷ ds) = ap (λ xs. own_digest d ∷ xs) (digests_said ds)
+
+pub not_differ : (payload : Data) (ls : List Disclosed) → differ (map (λ l. l.digest) ls) ≡ false → reach_rule payload ls ≡ Some 10
+unfolding reach_rule rule
+not_differ payload ls e = rw e refl
+
+pub not_reached : (payload : Data) (ls : List Disclosed) → differ (map (λ l. l.digest) ls) ≡ true → are_reached payload ls ≡ false → reach_rule payload ls ≡ Some 10
+unfolding reach_rule rule
+not_reached payload ls e f = rw (e, f) refl
+
+pub all_reached : (payload : Data) (ls : List Disclosed) → differ (map (λ l. l.digest) ls) ≡ true → are_reached payload ls ≡ true → reach_rule payload ls ≡ None
+unfolding reach_rule rule
+all_reached payload ls e f = rw (e, f) refl
+
+pub too_deep : (payload : Data) (ls : List Disclosed) → spelled_payload ls payload ≡ None → depth_rule payload ls ≡ Some 14
+unfolding depth_rule rule
+too_deep payload ls e = rw e refl
+
+pub deep_enough : (payload : Data) (ls : List Disclosed) (ns : List Named) → spelled_payload ls payload ≡ Some ns → depth_rule payload ls ≡ None
+unfolding depth_rule rule
+deep_enough payload ls ns e = rw e refl
+
+-- a test of each, where the tests are equal
+pub all_same : (p q : Disclosed → Bool) (ls : List Disclosed) → ((l : Disclosed) → p l ≡ q l) → list_all p ls ≡ list_all q ls
+all_same p q [] h = refl
+all_same p q (l ∷ ls) h = ap₂ (λ a b. a && b) (h l) (all_same p q ls h)
+
+pub none_if : (o : Option ℕ) → ((n : ℕ) → o ≡ Some n → ⊥) → o ≡ None
+none_if None h = refl
+none_if (Some n) h = absurd (h n refl)
+
+-- where the first rules are not broken, those from the tenth on decide
+pub own_placed : (payload : Data) (ls : List Disclosed) → marks_rule payload ls ≡ None → double_rule payload ls ≡ None → (placed : Placed) → IsOwnPlaced payload ls placed → IsPlaced payload ls placed
+unfolding placing_rule
+own_placed payload ls m d (Tree members) h = (first_past _ _ m ∙ first_past _ _ d ∙ last_here (own_place_rule payload ls) ∙ h.0, h.1)
+own_placed payload ls m d (Broken n) h = first_past _ _ m ∙ first_past _ _ d ∙ last_here (own_place_rule payload ls) ∙ h
+
+pub own_result : {E : Type 0} (payload : Data) (ls ks : List Disclosed) → ks ≡ ls → marks_rule payload ls ≡ None → double_rule payload ls ≡ None → (r : Result Placed E) → IfOk r (IsOwnPlaced payload ks) → IfOk r (IsPlaced payload ls)
+own_result payload ls ks e m d (Ok placed) h = own_placed payload ls m d placed (subst (λ xs. IsOwnPlaced payload xs placed) e h)
+own_result payload ls ks e m d (Err x) h = tt

@@ -1,0 +1,44 @@
+use Rattle.std.proofs.Common.{◌≡◌, true, false, None, Some, map, sym, ap, ◌∙◌, subst}
+use Rattle.std.specs.Prelude.{IfSome}
+use Rattle.std.specs.Option.{is_some}
+use Rattle.serde_json.specs.View.{view}
+use Rattle.sdjwt_view.specs.Disclosures.{differ}
+use Rattle.sdjwt_view.specs.Held.{all_said}
+use Rattle.sdjwt_view.specs.Said.{said}
+use Rattle.sdjwt_view.specs.Named.{own_digest}
+use Rattle.sdjwt_view.specs.Placing.{marks_rule, double_rule, placing_rule, own_place_rule}
+use Rattle.sdjwt_view.proofs.PlacingSteps.{first_here, first_past, last_here, digests_said, not_differ, none_if, own_result}
+use Rattle.sdjwt_view.proofs.placing.place.Goals as goal
+
+pub returns-in-Some : goal.returns-in-Some
+unfolding placing_rule
+returns-in-Some c =
+    let e : marks_rule (view c.args.payload.now) (map said c.args.list.items) ≡ Some c.in-Some.rule = ap (λ ds. marks_rule (view c.args.payload.now) (map said ds)) (sym c.deref.ensures.value) ∙ sym c.marks_rule.ensures ∙ c.in-Some.is in
+    first_here _ _ _ e
+
+pub returns-in-Some-2 : goal.returns-in-Some-2
+unfolding placing_rule
+returns-in-Some-2 c =
+    let m : marks_rule (view c.args.payload.now) (map said c.args.list.items) ≡ None = ap (λ ds. marks_rule (view c.args.payload.now) (map said ds)) (sym c.deref.ensures.value) ∙ sym c.marks_rule.ensures ∙ none_if c.marks_rule.result c.in_default.not-Some in
+    let d : double_rule (view c.args.payload.now) (map said c.args.list.items) ≡ Some c.in-Some-2.rule = ap (λ ds. double_rule (view c.args.payload.now) (map said ds)) (sym c.deref-2.ensures.value) ∙ sym c.in_ok-rule.ensures ∙ c.in-Some-2.is in
+    first_past _ _ m ∙ first_here _ _ _ d
+
+pub place_own-requires : goal.place_own-requires
+place_own-requires c =
+    let all : all_said c.in-Some-3.disclosures ≡ map said c.args.list.items = subst (λ o. IfSome o (λ ds. all_said ds ≡ map said c.args.list.items)) c.in-Some-3.is c.in_ok-disclosures.ensures.list in
+    ap (λ ls. differ (map (λ l. l.digest) ls)) all ∙ ap differ (digests_said c.args.list.items) ∙ sym c.in_ok-disclosures.ensures.differ ∙ ap is_some c.in-Some-3.is
+
+pub returns-in-Some-3 : goal.returns-in-Some-3
+returns-in-Some-3 c =
+    let all : all_said c.in-Some-3.disclosures ≡ map said c.args.list.items = subst (λ o. IfSome o (λ ds. all_said ds ≡ map said c.args.list.items)) c.in-Some-3.is c.in_ok-disclosures.ensures.list in
+    let m : marks_rule (view c.args.payload.now) (map said c.args.list.items) ≡ None = ap (λ ds. marks_rule (view c.args.payload.now) (map said ds)) (sym c.deref.ensures.value) ∙ sym c.marks_rule.ensures ∙ none_if c.marks_rule.result c.in_default.not-Some in
+    let d : double_rule (view c.args.payload.now) (map said c.args.list.items) ≡ None = ap (λ ds. double_rule (view c.args.payload.now) (map said ds)) (sym c.deref-2.ensures.value) ∙ sym c.in_ok-rule.ensures ∙ none_if c.in_ok-rule.field-0 c.in_default-2.not-Some in
+    own_result (view c.args.payload.now) (map said c.args.list.items) (all_said c.in-Some-3.disclosures) all m d c.place_own.result c.place_own.ensures
+
+pub returns-in-None : goal.returns-in-None
+unfolding placing_rule
+returns-in-None c =
+    let m : marks_rule (view c.args.payload.now) (map said c.args.list.items) ≡ None = ap (λ ds. marks_rule (view c.args.payload.now) (map said ds)) (sym c.deref.ensures.value) ∙ sym c.marks_rule.ensures ∙ none_if c.marks_rule.result c.in_default.not-Some in
+    let d : double_rule (view c.args.payload.now) (map said c.args.list.items) ≡ None = ap (λ ds. double_rule (view c.args.payload.now) (map said ds)) (sym c.deref-2.ensures.value) ∙ sym c.in_ok-rule.ensures ∙ none_if c.in_ok-rule.field-0 c.in_default-2.not-Some in
+    let same : differ (map (λ l. l.digest) (map said c.args.list.items)) ≡ false = ap differ (digests_said c.args.list.items) ∙ sym c.in_ok-disclosures.ensures.differ ∙ ap is_some c.in-None.is in
+    first_past _ _ m ∙ first_past _ _ d ∙ last_here (own_place_rule (view c.args.payload.now) (map said c.args.list.items)) ∙ first_here _ _ 10 (not_differ (view c.args.payload.now) (map said c.args.list.items) same)
