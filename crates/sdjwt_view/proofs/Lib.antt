@@ -7,3 +7,5 @@ pub mod ValueClaims
 pub mod NodeParts
 pub mod HolderKeys
 pub mod PlacingSteps
+pub mod TextParts
+pub mod ReadSteps

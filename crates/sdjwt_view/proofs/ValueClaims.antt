@@ -20,7 +20,7 @@ json_claim_at : (b : Bool) (bytes : List ℕ) (d : Data) → cond b (read bytes)
 json_claim_at true bytes d e = is_claim-read bytes d e
 json_claim_at false bytes d e = cc
 
-json_claim : (bytes : List ℕ) (d : Data) → json_of bytes ≡ Some d → IsSound d
+pub json_claim : (bytes : List ℕ) (d : Data) → json_of bytes ≡ Some d → IsSound d
 json_claim bytes d e = json_claim_at (is_utf8 bytes) bytes d e
 
 pub json_in-claim : (text : Utf8) (d : Data) → json_in text ≡ Some d → IsSound d

@@ -10,3 +10,6 @@ pub mod Named
 pub mod Held
 pub mod Prefixed
 pub mod Placed
+pub mod Refusal
+pub mod Listed
+pub mod Credential

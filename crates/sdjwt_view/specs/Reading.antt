@@ -15,7 +15,7 @@ use Rattle.jws_envelope.specs.Compact.{dot_parts}
 use Rattle.jws_envelope.specs.Envelope.{Envelope, envelope_of, jws_rule, issuer_of}
 use Rattle.claim_tree.specs.Tree.{Tree, RecordOf}
 use Rattle.sdjwt_view.specs.Disclosures.{Utf8, Disclosed, all_disclosed}
-use Rattle.sdjwt_view.specs.Spelling.{sd_alg, members_of, spelled_payload}
+use Rattle.sdjwt_view.specs.Spelling.{sd_alg, Named, members_of, spelled_payload}
 use Rattle.sdjwt_view.specs.Placing.{placing_rule}
 use Rattle.sdjwt_view.specs.Facts.{facts_rule, kind_of, holder_of, first_of, past_of}
 
@@ -60,7 +60,7 @@ abbrev pub disclosures_of : Envelope → List Utf8 → List Disclosed
 disclosures_of e texts = unwrap_or (all_disclosed (hash_of e.payload) texts) []
 
 -- rules 3 to 6
-abbrev pub front_rule : Envelope → List Utf8 → Option ℕ
+unfoldable pub front_rule : Envelope → List Utf8 → Option ℕ
 front_rule e texts = first
     (rule 3 (not (has_sd_type e.header))
     ∷ rule 4 (is_none (named_hash e.payload))
@@ -68,13 +68,13 @@ front_rule e texts = first
     ∷ rule 6 (is_none (all_disclosed (hash_of e.payload) texts))
     ∷ [])
 
+-- rules 7 to 17
+abbrev pub later_rule : Data → List Disclosed → Option ℕ
+later_rule payload ls = first (placing_rule payload ls ∷ facts_rule payload ∷ [])
+
 -- rules 3 to 17
 abbrev pub inner_rule : Envelope → List Utf8 → Option ℕ
-inner_rule e texts = first
-    (front_rule e texts
-    ∷ placing_rule e.payload (disclosures_of e texts)
-    ∷ facts_rule e.payload
-    ∷ [])
+inner_rule e texts = first (front_rule e texts ∷ later_rule e.payload (disclosures_of e texts) ∷ [])
 
 -- by a rule of SD-JWT, or by one of its issuer's JWS
 pub data Refusal : Type 0 where
@@ -107,18 +107,26 @@ pub record Credential : Type 0 where
   pub first : ℕ
   pub past : Option ℕ
 
--- what a JWS with these disclosures says
-abbrev pub credential_of : Envelope → List Utf8 → Credential
-credential_of e texts = record {
+-- what a JWS says under this hash and with these members of its tree
+abbrev pub credential_with : Envelope → HashName → List Named → Credential
+credential_with e hash members = record {
   jws = e;
-  hash = hash_of e.payload;
-  tree = RecordOf (members_of (unwrap_or (spelled_payload (disclosures_of e texts) e.payload) []));
+  hash = hash;
+  tree = RecordOf (members_of members);
   kind = kind_of e.payload;
   issuer = issuer_of e;
   holder = holder_of e.payload;
   first = first_of e.payload;
   past = past_of e.payload;
 }
+
+-- the members that its payload spells with these disclosures
+abbrev pub members_with : Data → List Disclosed → List Named
+members_with payload ls = unwrap_or (spelled_payload ls payload) []
+
+-- what a JWS with the disclosures of these texts says
+abbrev pub credential_of : Envelope → List Utf8 → Credential
+credential_of e texts = credential_with e (hash_of e.payload) (members_with e.payload (disclosures_of e texts))
 
 -- what a text says, where it breaks no rule
 unfoldable pub credential_in : Utf8 → Option Credential

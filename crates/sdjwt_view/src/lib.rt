@@ -2,19 +2,23 @@
 #![tactic(auto)]
 
 mod clash;
+mod credential;
 mod disclosure;
 mod disclosures;
 mod distinct;
 mod error;
 mod facts;
 mod floats;
+mod front;
 mod marks;
 mod node;
 mod places;
 mod placing;
 mod reach;
+mod reader;
 mod spell;
 mod view;
 
+pub use credential::SdCredential;
 pub use error::{Error, NoMemory};
 pub use view::SdNode;

@@ -1,0 +1,14 @@
+use Rattle.std.proofs.Common.{map, sym, ap, ◌∙◌, subst}
+use Rattle.serde_json.specs.View.{view}
+use Rattle.claim_tree.specs.Tree.{is_claim}
+use Rattle.claim_tree.specs.Plain.{plain}
+use Rattle.sdjwt_view.specs.Nodes.{named_of}
+use Rattle.sdjwt_view.specs.Placed.{IsPlaced}
+use Rattle.sdjwt_view.specs.Said.{said}
+use Rattle.sdjwt_view.proofs.ReadSteps.{spelled_claim}
+use Rattle.sdjwt_view.proofs.reader.read_placed.Goals as goal
+
+pub read_facts-requires : goal.read_facts-requires
+read_facts-requires c =
+    let placed = subst (IsPlaced (view c.payload.result.now) (map said c.args.list.items)) c.in-Tree.is c.in_ok-members.ensures in
+    spelled_claim (view c.payload.result.now) c.args.list.items (map named_of c.in-Tree.members.items) (ap (λ d. is_claim (plain d)) c.payload.ensures ∙ c.requires) placed.1

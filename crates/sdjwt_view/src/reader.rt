@@ -1,0 +1,99 @@
+// Reading past the issuer's JWS.
+ghost use Rattle.std.specs.Prelude.{◌≡◌, true, None, IfOk, IfErr, map};
+ghost use Rattle.claim_tree.specs.Plain.{plain};
+ghost use Rattle.claim_tree.specs.Tree.{RecordOf, is_claim};
+ghost use Rattle.jws_envelope.specs.Jws.{envelope};
+ghost use Rattle.sdjwt_view.specs.Credential.{meaning};
+ghost use Rattle.sdjwt_view.specs.Facts.{facts_rule};
+ghost use Rattle.sdjwt_view.specs.Nodes.{named_of};
+ghost use Rattle.sdjwt_view.specs.Reading.{inner_rule, later_rule, credential_of, credential_with, members_with};
+ghost use Rattle.sdjwt_view.specs.Refusal.{IsInnerRefusal};
+ghost use Rattle.sdjwt_view.specs.Said.{said};
+ghost use Rattle.sdjwt_view.specs.Spelling.{members_of};
+
+use crate::credential::SdCredential;
+use crate::disclosure::Disclosure;
+use crate::error::Error;
+use crate::facts::{facts_rule, first_of, holder_of, kind_of, past_of};
+use crate::front::{Listed, read_list};
+use crate::node::{Member, Node};
+use crate::placing::{Placed, place};
+use base_forms::HashName;
+use jws_envelope::Jws;
+use std::alloc::Global;
+
+// What a JWS says with the disclosures of these texts.
+pub fn read_inner<'t>(
+    alloc: Global,
+    text: &'t str,
+    jws: Jws<'t>,
+    texts: &[&str],
+) -> Result<SdCredential<'t>, Error>
+    requires { is_claim (plain (envelope jws).payload) ≡ true }
+    ensures sound { IfOk result (λ _. inner_rule (envelope jws.entry) (map (λ s. s.now) texts.now) ≡ None) }
+    ensures read { IfOk result (λ c. meaning c ≡ credential_of (envelope jws.entry) (map (λ s. s.now) texts.now)) }
+    ensures same { IfOk result (λ c. c.text.now ≡ text.now) }
+    ensures refused { IfErr result (λ e. IsInnerRefusal (inner_rule (envelope jws.entry) (map (λ s. s.now) texts.now)) e) }
+{
+    match read_list(alloc, &jws, texts)? {
+        Listed::Read(hash, list) => read_placed(alloc, text, jws, hash, list),
+        Listed::Broken(rule) => Err(Error::Refused(rule)),
+    }
+}
+
+// What a JWS says with these disclosures.
+fn read_placed<'t>(
+    alloc: Global,
+    text: &'t str,
+    jws: Jws<'t>,
+    hash: HashName,
+    list: Vec<Disclosure>,
+) -> Result<SdCredential<'t>, Error>
+    requires { is_claim (plain (envelope jws).payload) ≡ true }
+    ensures sound { IfOk result (λ _. later_rule (envelope jws.entry).payload (map said list.items) ≡ None) }
+    ensures read { IfOk result (λ c. meaning c ≡ credential_with (envelope jws.entry) hash (members_with (envelope jws.entry).payload (map said list.items))) }
+    ensures same { IfOk result (λ c. c.text.now ≡ text.now) }
+    ensures refused { IfErr result (λ e. IsInnerRefusal (later_rule (envelope jws.entry).payload (map said list.items)) e) }
+{
+    match place(alloc, jws.payload(), list)? {
+        Placed::Tree(members) => read_facts(alloc, text, jws, hash, members),
+        Placed::Broken(rule) => Err(Error::Refused(rule)),
+    }
+}
+
+// What a JWS says with these members of its tree.
+fn read_facts<'t>(
+    alloc: Global,
+    text: &'t str,
+    jws: Jws<'t>,
+    hash: HashName,
+    members: Vec<Member>,
+) -> Result<SdCredential<'t>, Error>
+    requires { is_claim (RecordOf (members_of (map named_of members.items))) ≡ true }
+    ensures sound { IfOk result (λ _. facts_rule (envelope jws.entry).payload ≡ None) }
+    ensures read { IfOk result (λ c. meaning c ≡ credential_with (envelope jws.entry) hash (map named_of members.items)) }
+    ensures same { IfOk result (λ c. c.text.now ≡ text.now) }
+    ensures refused { IfErr result (λ e. IsInnerRefusal (facts_rule (envelope jws.entry).payload) e) }
+{
+    if let Some(rule) = facts_rule(jws.payload()) {
+        return Err(Error::Refused(rule));
+    }
+    let kind = String::from_str(alloc, kind_of(jws.payload()))?;
+    let Ok(issuer) = jws.issuer_name(alloc) else {
+        return Err(Error::NoMemory);
+    };
+    let holder = holder_of(alloc, jws.payload())?;
+    let first = first_of(jws.payload());
+    let past = past_of(jws.payload());
+    Ok(SdCredential {
+        text,
+        jws,
+        hash,
+        root: Node::Record(members),
+        kind,
+        issuer,
+        holder,
+        first,
+        past,
+    })
+}
