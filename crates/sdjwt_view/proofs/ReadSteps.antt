@@ -16,6 +16,10 @@ use Rattle.sdjwt_view.specs.Spelling.{Named, members_of, spelled_payload}
 use Rattle.sdjwt_view.specs.declared.disclosure.Disclosure.{Disclosure}
 use Rattle.sdjwt_view.specs.declared.error.Error.{Error}
 use Rattle.sdjwt_view.specs.declared.error.Error.TheVariants.{Refused, Envelope as EnvelopeError, NoMemory}
+use Rattle.jws_envelope.specs.declared.error.Error as theirs
+use Rattle.jws_envelope.specs.declared.error.Error.TheVariants as their
+use Rattle.jws_envelope.specs.Refusal.{IsRefusal as TheirRefusal}
+use Rattle.sdjwt_view.specs.EnvelopeError.{of_envelope}
 use Rattle.sdjwt_view.proofs.Claims.{IsSound, AreSound, payload_claim}
 use Rattle.sdjwt_view.proofs.ValueClaims.{json_claim}
 
@@ -23,9 +27,13 @@ pub no_parts : (t : Utf8) → parts_of (pieces t) ≡ None → refusal_of t ≡ 
 unfolding refusal_of
 no_parts t e = ap refusal_of_parts e
 
-pub jws_refused : (t j : Utf8) (ts : List Utf8) (n : ℕ) → parts_of (pieces t) ≡ Some (j, ts) → jws_rule j ≡ Some n → refusal_of t ≡ Some (envelope n)
+jws_refused : (t j : Utf8) (ts : List Utf8) (n : ℕ) → parts_of (pieces t) ≡ Some (j, ts) → jws_rule j ≡ Some n → refusal_of t ≡ Some (envelope n)
 unfolding refusal_of
 jws_refused t j ts n e h = ap refusal_of_parts e ∙ ap (λ o. either_rule o (inner_rule (envelope_of (dot_parts j)) ts)) h
+
+pub jws_error : (t j : Utf8) (ts : List Utf8) (error : theirs.Error) → parts_of (pieces t) ≡ Some (j, ts) → TheirRefusal (jws_rule j) error → IsRefusal (refusal_of t) (of_envelope error)
+jws_error t j ts (their.Refused n) p h = jws_refused t j ts n p h
+jws_error t j ts their.NoMemory p h = tt
 
 not_broken : {A : Type 0} (o : Option ℕ) (x y : A) → unless_broken o x ≡ Ok y → (o ≡ None) × (x ≡ y)
 not_broken None x y e = (refl, cc)

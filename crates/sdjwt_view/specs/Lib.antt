@@ -13,3 +13,4 @@ pub mod Placed
 pub mod Refusal
 pub mod Listed
 pub mod Credential
+pub mod EnvelopeError

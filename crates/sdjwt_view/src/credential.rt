@@ -3,7 +3,7 @@ ghost use Rattle.std.specs.Prelude.{◌≡◌, true};
 ghost use Rattle.claim_tree.specs.Tree.{is_claim};
 ghost use Rattle.sdjwt_view.specs.Nodes.{tree_of};
 
-use crate::error::Error;
+use crate::error::{Error, envelope_error};
 use crate::front::split;
 use crate::node::Node;
 use crate::reader::read_inner;
@@ -55,8 +55,7 @@ impl<'t> SdCredential<'t> {
         };
         match Jws::read(alloc, parts.jws) {
             Ok(jws) => read_inner(alloc, text, jws, &parts.disclosures),
-            Err(jws_envelope::Error::Refused(rule)) => Err(Error::Envelope(rule)),
-            Err(jws_envelope::Error::NoMemory) => Err(Error::NoMemory),
+            Err(error) => Err(envelope_error(error)),
         }
     }
 

@@ -1,4 +1,7 @@
 // Why no credential is read.
+ghost use Rattle.std.specs.Prelude.{◌≡◌};
+ghost use Rattle.sdjwt_view.specs.EnvelopeError.{of_envelope};
+
 use std::alloc::{AllocError, AllocFailed};
 
 /// Memory was wanting.
@@ -35,5 +38,15 @@ impl<T: Drop> From<AllocFailed<T>> for Error {
 
     fn from(_error: AllocFailed<T>) -> Error {
         Error::NoMemory
+    }
+}
+
+/// What a refusal of the issuer's JWS is to a credential.
+pub(crate) fn envelope_error(error: jws_envelope::Error) -> Error
+    ensures { result ≡ of_envelope error }
+{
+    match error {
+        jws_envelope::Error::Refused(rule) => Error::Envelope(rule),
+        jws_envelope::Error::NoMemory => Error::NoMemory,
     }
 }

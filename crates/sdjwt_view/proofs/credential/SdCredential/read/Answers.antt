@@ -7,7 +7,7 @@ use Rattle.sdjwt_view.specs.declared.front.Parts.{Parts}
 use Rattle.sdjwt_view.specs.declared.credential.SdCredential.{SdCredential}
 use Rattle.sdjwt_view.specs.declared.error.Error.{Error}
 use Rattle.sdjwt_view.proofs.TextParts.{texts}
-use Rattle.sdjwt_view.proofs.ReadSteps.{no_parts, jws_refused, past_jws, said_in, inner_refusal, in_ok, in_err, payload_sound}
+use Rattle.sdjwt_view.proofs.ReadSteps.{no_parts, jws_error, past_jws, said_in, inner_refusal, in_ok, in_err, payload_sound}
 use Rattle.sdjwt_view.proofs.credential.SdCredential.read.Goals as goal
 
 pub returns-in_default-clause-refused : goal.returns-in_default-clause-refused
@@ -41,7 +41,7 @@ returns-in-Ok-clause-refused c =
     ∙ ap (λ ds. either_rule None (inner_rule (envelope c.in-Ok.jws) (texts ds))) (sym c.deref.ensures.value) in
     in_err c.read_inner.result (λ (e : Error). IsInnerRefusal (inner_rule (envelope c.in-Ok.jws) (texts c.deref.result.now)) e) (λ (e : Error). IsRefusal (refusal_of c.args.text.now) e) (λ e h. inner_refusal c.args.text.now (inner_rule (envelope c.in-Ok.jws) (texts c.deref.result.now)) e whole h) c.read_inner.ensures.refused
 
-pub returns-in-Err-Refused-clause-refused : goal.returns-in-Err-Refused-clause-refused
-returns-in-Err-Refused-clause-refused c =
+pub returns-clause-refused : goal.returns-clause-refused
+returns-clause-refused c =
     let parts : parts_of (pieces c.args.text.now) ≡ Some (c.in-Some.parts.jws.now, texts c.in-Some.parts.disclosures.items) = sym c.in_ok-parts.ensures ∙ ap (option_map (λ (p : Parts). (p.jws.now, texts p.disclosures.items))) c.in-Some.is in
-    jws_refused c.args.text.now c.in-Some.parts.jws.now (texts c.in-Some.parts.disclosures.items) _ parts (rw c.in-Err-Refused.field-0-is at c.in-Err-Refused.ensures.refused)
+    subst (IsRefusal (refusal_of c.args.text.now)) (sym c.envelope_error.ensures) (jws_error c.args.text.now c.in-Some.parts.jws.now (texts c.in-Some.parts.disclosures.items) c.in-Err.error parts c.in-Err.ensures.refused)
