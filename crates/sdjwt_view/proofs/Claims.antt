@@ -139,7 +139,6 @@ claims-append (x ∷ xs) ys h k =
     let both = and_parts (is_claim x.1) (are_claims (elements_of xs)) h in
     and_from (is_claim x.1) (are_claims (elements_of (xs ++ ys))) both.0 (claims-append xs ys both.1 k)
 
-
 held-append : (xs ys : List Part) → list_any (λ m. m) (element_marks (elements_of (xs ++ ys))) ≡ (list_any (λ m. m) (element_marks (elements_of xs)) || list_any (λ m. m) (element_marks (elements_of ys)))
 held-append [] ys = refl
 held-append (x ∷ xs) ys = held_head x.0 _ _ _ (held-append xs ys) where
@@ -154,9 +153,10 @@ both_marks false b true d h k = or_true (not b)
 both_marks false b false d h k = k
 
 parts-append : (a b : Bool) (xs ys : List Part) → ArePart a xs → ArePart b ys → ArePart (a || b) (xs ++ ys)
-parts-append a b xs ys h k =
-    (claims-append xs ys h.0 k.0,
-    ap (λ m. not m || (a || b)) (held-append xs ys) ∙ both_marks (list_any (λ m. m) (element_marks (elements_of xs))) (list_any (λ m. m) (element_marks (elements_of ys))) a b h.1 k.1)
+parts-append a b xs ys h k = (
+  claims-append xs ys h.0 k.0,
+  ap (λ m. not m || (a || b)) (held-append xs ys) ∙ both_marks (list_any (λ m. m) (element_marks (elements_of xs))) (list_any (λ m. m) (element_marks (elements_of ys))) a b h.1 k.1,
+)
 
 disclosed_part : (inner : Data → Option Tree) → Spells inner → (o : Option Disclosed) → IfSome o (λ d. IsSound d.value) → IfSome (disclosed_element inner o) (ArePart true)
 disclosed_part inner good None h = (refl, refl)
@@ -176,7 +176,7 @@ elements_parts inner good ls all (item d ds) h =
     let both = and_parts (is_claim (plain d)) (are_claims (plain_elements ds)) h in
     some_and_then (ArePart (is_some (placeholder d))) (ArePart (has_placeholder (item d ds))) _
     (λ e x. some_map (ArePart (has_placeholder ds)) (ArePart (has_placeholder (item d ds))) (λ es. e ++ es)
-      (λ es y. parts-append (is_some (placeholder d)) (has_placeholder ds) e es x y) (spelled_elements inner ls ds) (elements_parts inner good ls all ds both.1))
+    (λ es y. parts-append (is_some (placeholder d)) (has_placeholder ds) e es x y) (spelled_elements inner ls ds) (elements_parts inner good ls all ds both.1))
     (spelled_element inner ls d) (element_part inner good ls all d both.0 (placeholder d))
 
 list_claim : (hidden : Bool) (es : List Part) → ArePart hidden es → IsGood (ListOf hidden (elements_of es))
@@ -192,10 +192,13 @@ abbrev AreWithin : Fields → List Named → Type 0
 AreWithin ms ns = ((p : Name → Bool) → list_all p (member_names (plain_fields ms)) ≡ true → list_all p (named ns) ≡ true) × AreMembers ns
 
 kept_within : (k : Utf8) (d : Data) (ms : Fields) (ns : List Named) (t : Tree) → list_all (below k) (member_names (plain_fields ms)) ≡ true → IsGood t → AreWithin ms ns → AreWithin (field k d ms) ((k, false, t) ∷ ns)
-kept_within k d ms ns t first good h =
-    (λ p all. let both = and_parts (p k) (list_all p (member_names (plain_fields ms))) all in and_from (p k) (list_all p (named ns)) both.0 (h.0 p both.1),
-    (and_from (list_all (below k) (named ns)) (ascend (named ns)) (h.0 (below k) first) (h.1).0,
-    and_from (is_claim t) (hold_claims (members_of ns)) good (h.1).1))
+kept_within k d ms ns t first good h = (
+  λ p all. let both = and_parts (p k) (list_all p (member_names (plain_fields ms))) all in and_from (p k) (list_all p (named ns)) both.0 (h.0 p both.1),
+  (
+    and_from (list_all (below k) (named ns)) (ascend (named ns)) (h.0 (below k) first) (h.1).0,
+    and_from (is_claim t) (hold_claims (members_of ns)) good (h.1).1,
+  ),
+)
 
 left_within : (k : Utf8) (d : Data) (ms : Fields) (ns : List Named) → AreWithin ms ns → AreWithin (field k d ms) ns
 left_within k d ms ns h = (λ p all. h.0 p (and_parts (p k) (list_all p (member_names (plain_fields ms))) all).1, h.1)
@@ -261,6 +264,7 @@ object_good n ls all d h (Some ms) e = goes (spelled_members true (spelled n ls)
   goes : (o : Option (List Named)) → IfSome o AreMembers → IfSome o (λ ns. is_claim (RecordOf (members_of ns)) ≡ true)
   goes None x = tt
   goes (Some ns) x = record_claim ns x
+
   object_sound : (d : Data) (ms : Fields) → as_object d ≡ Some ms → IsSound d → IsSound (object ms)
   object_sound (object ns) ms e h = subst (λ (o : Option Fields). IfSome o (λ fs. IsSound (object fs))) e h
   object_sound null ms e h = cc

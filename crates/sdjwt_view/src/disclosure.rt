@@ -25,11 +25,7 @@ impl Disclosure {
     ghost use Rattle.sdjwt_view.specs.Disclosures.{disclosed};
 
     /// What a disclosure's text says, or none where it is not of the form.
-    pub fn read(
-        alloc: Global,
-        hash: HashName,
-        text: &str,
-    ) -> Result<Option<Disclosure>, AllocError>
+    pub fn read(alloc: Global, hash: HashName, text: &str) -> Result<Option<Disclosure>, AllocError>
         ensures { IfOk result (λ o. option_map said o ≡ disclosed hash text.now) }
     {
         let Some(json) = json_in(alloc, text)? else {

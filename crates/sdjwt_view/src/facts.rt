@@ -6,8 +6,8 @@ ghost use Rattle.serde_json.specs.Find.{get};
 ghost use Rattle.json_forms.specs.Look.{is_wrong};
 ghost use Rattle.sdjwt_view.specs.Facts.{moment_of, is_moment, moment_at, is_key, is_holder, facts_rule, jwk_name, holder_of, kind_of, first_of, past_of};
 
-use claim_tree::KeyName;
 use crate::floats::has_float;
+use claim_tree::KeyName;
 use json_forms::text_at;
 use serde_json::Value;
 use std::alloc::{AllocError, Global};

@@ -22,3 +22,6 @@ mod view;
 pub use credential::SdCredential;
 pub use error::{Error, NoMemory};
 pub use view::SdNode;
+
+#[cfg(test)]
+mod tests;

@@ -87,10 +87,7 @@ fn gather_all<'a>(
     Ok(places)
 }
 
-fn gather_values<'a>(
-    list: &'a [Disclosure],
-    places: &mut Vec<Place<'a>>,
-) -> Result<(), AllocError>
+fn gather_values<'a>(list: &'a [Disclosure], places: &mut Vec<Place<'a>>) -> Result<(), AllocError>
     ensures { OnOk result (map place_of places.new.items ≡ map place_of places.old.items ++ values_places (map said list.now)) }
 {
     for disclosure in list {
@@ -167,11 +164,7 @@ fn names_rule(
     Ok(None)
 }
 
-fn any_clash(
-    alloc: Global,
-    payload: &Value,
-    disclosures: &Disclosures,
-) -> Result<bool, AllocError>
+fn any_clash(alloc: Global, payload: &Value, disclosures: &Disclosures) -> Result<bool, AllocError>
     ensures { IfOk result (λ b. b ≡ any_clash (view payload.now) (all_said disclosures.now)) }
 {
     if has_clash(alloc, disclosures, payload)? {

@@ -62,7 +62,10 @@ pub fn reach<'a>(
     Ok(())
 }
 
-pub fn add_digests<'a>(places: &Vec<Place<'a>>, digests: &mut Vec<&'a str>) -> Result<(), AllocError>
+pub fn add_digests<'a>(
+    places: &Vec<Place<'a>>,
+    digests: &mut Vec<&'a str>,
+) -> Result<(), AllocError>
     ensures { OnOk result
         (map (λ s. s.now) digests.new.items ≡ map (λ s. s.now) digests.old.items ++ map digest_at (map place_of places.now.items)) }
 {
