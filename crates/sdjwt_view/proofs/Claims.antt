@@ -1,5 +1,5 @@
 -- What a credential spells is a claim tree: names ascend, and a list with a held element is loose.
-use Rattle.std.proofs.Common.{◌≡◌, ℕ, zero, suc, Bool, true, false, not, ◌&&◌, ◌||◌, cond, List, [], ◌∷◌, ◌++◌, map, Option, Some, None, option_map, option_and_then, Ordering, Less, Equal, Greater, nat_cmp, refl, sym, ap, ◌∙◌, subst}
+use Rattle.std.proofs.Common.{◌≡◌, ℕ, zero, suc, Bool, true, false, not, ◌&&◌, ◌||◌, cond, List, [], ◌∷◌, ◌++◌, Option, Some, None, option_map, option_and_then, Ordering, Less, Equal, Greater, nat_cmp, refl, ap, ◌∙◌, subst}
 use Rattle.std.specs.Prelude.{⊤, IfSome}
 use Rattle.std.specs.Option.{is_some}
 use Rattle.std.specs.List.{list_all, list_any}
@@ -8,13 +8,13 @@ use Rattle.std.specs.Cmp.Lexicographic.{slice_cmp}
 use Rattle.std.specs.Str.{bytes_eq}
 use Rattle.std.proofs.lemmas.Bool.{and_parts, and_from}
 use Rattle.std.proofs.lemmas.Cmp.{nat_list_cmp_total}
-use Rattle.serde_json.specs.Data.{Data, null, boolean, number, string, array, object, Num, unsigned, negative, float, Items, no_items, item, Members as Fields, no_members as no_fields, member as field}
+use Rattle.serde_json.specs.Data.{Data, null, boolean, number, string, array, object, unsigned, negative, float, Items, no_items, item, Members as Fields, no_members as no_fields, member as field}
 use Rattle.serde_json.specs.Find.{as_object}
 use Rattle.claim_tree.specs.Tree.{Name, Tree, ListOf, RecordOf, element_marks, member_names, ascend, is_claim, are_claims, hold_claims}
 use Rattle.claim_tree.specs.Plain.{plain, plain_elements, plain_members as plain_fields}
 use Rattle.sdjwt_view.specs.Disclosures.{Utf8, is_among, Disclosed, found}
 use Rattle.sdjwt_view.specs.Places.{placeholder, own_digests}
-use Rattle.sdjwt_view.specs.Spelling.{Part, Named, elements_of, members_of, put_member, has_placeholder, disclosed_element, spelled_element, spelled_elements, spelled_list, left_out, plain_members, with_disclosure, with_disclosures, spelled_members, spelled_record, spelled, spelled_payload}
+use Rattle.sdjwt_view.specs.Spelling.{Part, Named, elements_of, members_of, put_member, has_placeholder, disclosed_element, spelled_element, spelled_elements, left_out, plain_members, with_disclosure, with_disclosures, spelled_members, spelled, spelled_payload}
 
 -- ---- what holds of what an `Option` has
 

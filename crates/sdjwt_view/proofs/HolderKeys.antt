@@ -1,14 +1,13 @@
 -- Where no rule on the holder is broken, the key's value has no number that is not whole.
-use Rattle.std.proofs.Common.{◌≡◌, Bool, true, false, not, ◌&&◌, cond, [], ◌∷◌, Option, Some, None, option_and_then, codes, refl, sym, ap, ◌∙◌}
-use Rattle.std.specs.Option.{is_none}
+use Rattle.std.proofs.Common.{◌≡◌, Bool, true, false, not, [], ◌∷◌, Option, Some, None, codes, refl, sym, ap, ◌∙◌}
 use Rattle.std.proofs.lemmas.Bool.{and_parts, cases_Bool}
 use Rattle.std.proofs.Common.{inl, inr}
 use Rattle.serde_json.specs.Data.{Data}
 use Rattle.serde_json.specs.Find.{get}
 use Rattle.serde_json.specs.Written.{has_float}
 use Rattle.rule_tables.specs.Rules.{rule, first}
-use Rattle.json_forms.specs.Look.{text_at, is_wrong, is_object}
-use Rattle.sdjwt_view.specs.Facts.{is_moment, is_key, is_holder, facts_rule}
+use Rattle.json_forms.specs.Look.{is_wrong, is_object}
+use Rattle.sdjwt_view.specs.Facts.{is_key, is_holder, facts_rule}
 
 third : (a b c : Bool) → first (rule 15 a ∷ rule 16 b ∷ rule 17 c ∷ []) ≡ None → c ≡ false
 unfolding rule

@@ -1,9 +1,9 @@
 -- The parts of the claim tree that a node is, level by level.
-use Rattle.std.proofs.Common.{◌≡◌, ℕ, ◌<◌, Bool, List, [], ◌∷◌, length, map, Option, Some, option_map, get_or, Vec, Global, string_bytes, refl, ap, ◌∙◌, rules, arith}
+use Rattle.std.proofs.Common.{◌≡◌, ℕ, ◌<◌, Bool, List, [], ◌∷◌, length, map, Some, option_map, get_or, Vec, Global, string_bytes, refl, ap, ◌∙◌, rules, arith}
 use Rattle.std.specs.List.{slice_get}
 use Rattle.std.proofs.Math.ListN.{length-map}
 use Rattle.std.proofs.lemmas.Option.{slice_get-map, slice_get_read}
-use Rattle.claim_tree.specs.Tree.{Name, Tree, ListOf, RecordOf, parts, marks, names, element_trees, element_marks, member_trees, member_marks, member_names}
+use Rattle.claim_tree.specs.Tree.{Name, Tree, RecordOf, parts, marks, names, element_trees, element_marks, member_trees, member_marks, member_names}
 use Rattle.sdjwt_view.specs.Nodes.{tree_of, part_of, named_of}
 use Rattle.sdjwt_view.specs.Spelling.{elements_of, members_of}
 use Rattle.sdjwt_view.specs.declared.node.Element.{Element}

@@ -1,11 +1,10 @@
 -- The rules on places, one after another.
-use Rattle.std.proofs.Common.{◌≡◌, ℕ, suc, ◌+◌, Bool, true, false, not, ◌&&◌, List, [], ◌∷◌, length, map, Option, Some, None, option_map, option_and_then, refl, sym, ap, ap₂, ◌∙◌, subst}
-use Rattle.std.specs.Option.{is_none}
+use Rattle.std.proofs.Common.{◌≡◌, ℕ, Bool, true, false, ◌&&◌, List, [], ◌∷◌, map, Option, Some, None, refl, ap, ap₂, ◌∙◌, subst}
 use Rattle.std.specs.List.{list_all}
 use Rattle.serde_json.specs.Data.{Data}
 use Rattle.rule_tables.specs.Rules.{rule, first}
-use Rattle.sdjwt_view.specs.Disclosures.{Utf8, is_among, differ, Disclosed}
-use Rattle.sdjwt_view.specs.Places.{are_reached, are_placed}
+use Rattle.sdjwt_view.specs.Disclosures.{differ, Disclosed}
+use Rattle.sdjwt_view.specs.Places.{are_reached}
 use Rattle.std.specs.Prelude.{IfOk, Result, Ok, Err}
 use Rattle.sdjwt_view.specs.Placing.{marks_rule, double_rule, reach_rule, depth_rule, own_place_rule, placing_rule}
 use Rattle.sdjwt_view.specs.Placed.{IsPlaced, IsOwnPlaced}

@@ -4,7 +4,7 @@ use Rattle.jws_envelope.specs.Envelope.{Envelope}
 use Rattle.sdjwt_view.specs.declared.front.Listed.{Listed}
 use Rattle.sdjwt_view.specs.declared.front.Listed.TheVariants.{Read, Broken}
 use Rattle.sdjwt_view.specs.Disclosures.{Utf8, all_disclosed}
-use Rattle.sdjwt_view.specs.Reading.{hash_of, named_hash, front_rule}
+use Rattle.sdjwt_view.specs.Reading.{hash_of, front_rule}
 use Rattle.sdjwt_view.specs.Said.{said}
 
 -- none of the rules 3 to 6 is broken and this is what the texts say, or this is the first that is broken

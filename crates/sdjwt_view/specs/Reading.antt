@@ -1,6 +1,6 @@
 -- Reading an SD-JWT without key binding (RFC 9901, sections 4 and 7.1) as a credential (SD-JWT VC, sections 3.1 and 3.2): what a text says,
 -- and the first rule that it breaks.
-use Rattle.std.specs.Prelude.{ℕ, Bool, false, ◌||◌, ◌==◌, not, nat_lt, List, [], ◌∷◌, length, codes, Option, Some, None, option_map, option_and_then, unwrap_or, is_none, if◌then◌else◌}
+use Rattle.std.specs.Prelude.{ℕ, Bool, false, ◌||◌, ◌==◌, not, nat_lt, List, [], ◌∷◌, length, codes, Option, Some, None, option_map, option_and_then, unwrap_or, is_none}
 use Rattle.std.specs.List.{slice_split}
 use Rattle.std.specs.Option.{option_map_or}
 use Rattle.std.specs.Str.{bytes_eq}

@@ -1,4 +1,4 @@
-use Rattle.std.proofs.Common.{◌≡◌, [], ◌∷◌, ◌++◌, Some, None, option_map, map, sym, ap, ◌∙◌, append-nil}
+use Rattle.std.proofs.Common.{◌≡◌, [], ◌++◌, Some, None, option_map, sym, ap, ◌∙◌, append-nil}
 use Rattle.sdjwt_view.specs.Reading.{parts_of, pieces}
 use Rattle.sdjwt_view.proofs.TextParts.{texts, parts_at, empty_end, full_end}
 use Rattle.sdjwt_view.proofs.front.split.Goals as goal

@@ -1,4 +1,4 @@
-use Rattle.std.proofs.Common.{◌≡◌, ℕ, suc, ◌+◌, ◌<◌, Bool, true, false, ◌&&◌, List, ◌∷◌, length, map, drop, get_or, nat_cmp, sym, ap, ◌∙◌, add-one, drop-cons, refl}
+use Rattle.std.proofs.Common.{◌≡◌, ℕ, suc, ◌+◌, ◌<◌, Bool, true, false, ◌&&◌, List, length, map, drop, get_or, nat_cmp, sym, ap, ◌∙◌, add-one, drop-cons, refl}
 use Rattle.std.specs.List.{list_all}
 use Rattle.std.specs.Option.{is_some}
 use Rattle.std.specs.BTreeMap.{get_by}

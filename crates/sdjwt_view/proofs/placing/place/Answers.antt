@@ -1,11 +1,10 @@
-use Rattle.std.proofs.Common.{◌≡◌, true, false, None, Some, map, sym, ap, ◌∙◌, subst}
+use Rattle.std.proofs.Common.{◌≡◌, false, None, Some, map, sym, ap, ◌∙◌, subst}
 use Rattle.std.specs.Prelude.{IfSome}
 use Rattle.std.specs.Option.{is_some}
 use Rattle.serde_json.specs.View.{view}
 use Rattle.sdjwt_view.specs.Disclosures.{differ}
 use Rattle.sdjwt_view.specs.Held.{all_said}
 use Rattle.sdjwt_view.specs.Said.{said}
-use Rattle.sdjwt_view.specs.Named.{own_digest}
 use Rattle.sdjwt_view.specs.Placing.{marks_rule, double_rule, placing_rule, own_place_rule}
 use Rattle.sdjwt_view.proofs.PlacingSteps.{first_here, first_past, last_here, digests_said, not_differ, none_if, own_result}
 use Rattle.sdjwt_view.proofs.placing.place.Goals as goal

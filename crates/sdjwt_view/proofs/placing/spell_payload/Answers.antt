@@ -1,8 +1,5 @@
-use Rattle.std.proofs.Common.{◌≡◌, true, Some, None, option_map, option_and_then, map, sym, ap, ◌∙◌, subst}
+use Rattle.std.proofs.Common.{◌≡◌, true, option_map, option_and_then, map, ap, subst}
 use Rattle.std.specs.Prelude.{IfOk}
-use Rattle.serde_json.specs.Data.{Members}
-use Rattle.serde_json.specs.Find.{as_object}
-use Rattle.serde_json.specs.View.{view, members_view}
 use Rattle.sdjwt_view.specs.Held.{all_said}
 use Rattle.sdjwt_view.specs.Nodes.{named_of}
 use Rattle.sdjwt_view.specs.Spelling.{spelled, spelled_members, spelled_payload}

@@ -1,4 +1,4 @@
-use Rattle.std.proofs.Common.{map, sym, ap, ◌∙◌, subst}
+use Rattle.std.proofs.Common.{map, ap, ◌∙◌, subst}
 use Rattle.serde_json.specs.View.{view}
 use Rattle.claim_tree.specs.Tree.{is_claim}
 use Rattle.claim_tree.specs.Plain.{plain}

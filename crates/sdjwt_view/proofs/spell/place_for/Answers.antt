@@ -1,4 +1,4 @@
-use Rattle.std.proofs.Common.{◌≡◌, ℕ, suc, ◌<◌, Bool, List, ◌∷◌, ◌++◌, length, map, take, drop, get_or, nat_cmp, Ordering, Less, Equal, Greater, string_bytes, sym, ap, ◌∙◌, drop-cons, refl}
+use Rattle.std.proofs.Common.{◌≡◌, ℕ, suc, ◌<◌, Bool, List, ◌∷◌, ◌++◌, length, map, take, drop, get_or, nat_cmp, Equal, string_bytes, sym, ap, ◌∙◌, drop-cons}
 use Rattle.std.specs.Ordering.{match_ordering}
 use Rattle.std.specs.Cmp.Lexicographic.{slice_cmp}
 use Rattle.std.proofs.lemmas.List.{map-append, take-append-drop}

@@ -1,4 +1,4 @@
-use Rattle.std.proofs.Common.{◌≡◌, ◌≤◌, ◌++◌, ◌∷◌, Bool, map, take, drop, length}
+use Rattle.std.proofs.Common.{◌≡◌, ◌++◌, Bool, map, take, drop}
 use Rattle.claim_tree.specs.Tree.{Tree}
 use Rattle.sdjwt_view.specs.Nodes.{named_of}
 use Rattle.sdjwt_view.specs.Spelling.{put_member}

@@ -1,4 +1,4 @@
-use Rattle.std.proofs.Common.{arith, ◌<◌, length}
+use Rattle.std.proofs.Common.{arith}
 use Rattle.sdjwt_view.specs.Nodes.{tree_of}
 use Rattle.claim_tree.specs.Tree.{marks}
 use Rattle.sdjwt_view.proofs.NodeParts.{marks-List, marks-Record, within_list, at_list}

@@ -1,4 +1,4 @@
-use Rattle.std.proofs.Common.{arith, ◌<◌, length, Some, sym, ap, ◌∙◌}
+use Rattle.std.proofs.Common.{arith, Some, sym, ap, ◌∙◌}
 use Rattle.sdjwt_view.specs.Nodes.{tree_of}
 use Rattle.claim_tree.specs.Tree.{names}
 use Rattle.sdjwt_view.proofs.NodeParts.{member_name, names-Record, within_list, at_list}

@@ -1,4 +1,4 @@
-use Rattle.std.proofs.Common.{arith, ◌<◌, length}
+use Rattle.std.proofs.Common.{arith}
 use Rattle.sdjwt_view.specs.Nodes.{tree_of}
 use Rattle.claim_tree.specs.Tree.{parts}
 use Rattle.sdjwt_view.proofs.NodeParts.{element_tree, member_tree, parts-List, parts-Record, within_list, at_list}

@@ -1,4 +1,4 @@
-use Rattle.std.proofs.Common.{◌≡◌, None, Some, Ok, option_map, map, sym, ap, ◌∙◌, subst}
+use Rattle.std.proofs.Common.{◌≡◌, None, Some, option_map, sym, ap, ◌∙◌, subst}
 use Rattle.jws_envelope.specs.Jws.{envelope}
 use Rattle.sdjwt_view.specs.Reading.{parts_of, pieces, inner_rule, either_rule, refusal_of, credential_of, credential_in}
 use Rattle.sdjwt_view.specs.Refusal.{IsRefusal, IsInnerRefusal}
