@@ -8,3 +8,4 @@ pub mod Written
 pub mod Steady
 pub mod Keys
 pub mod Ordered
+pub mod Counts

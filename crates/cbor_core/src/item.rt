@@ -2,10 +2,10 @@
 
 ghost use Rattle.cbor_core.specs.Head.{Gives};
 ghost use Rattle.cbor_core.specs.Item.{item_at};
-ghost use Rattle.std.specs.Prelude.{◌≡◌, ◌≤◌, IfOk, IsTrue, MatchOption, option_map, None, ℕ, List};
+ghost use Rattle.std.specs.Prelude.{◌≡◌, ◌≤◌, ◌<◌, ◌^◌, length, IfOk, IsTrue, MatchOption, option_map, None, ℕ, List};
 ghost use Rattle.std.specs.Option.{option_copied};
 ghost use Rattle.std.specs.Iterator.{YieldsFirstBy, item_count};
-ghost use Rattle.cbor_core.specs.Views.{is_item, items_in, whole_of, bytes_of, text_of, tag_of, truth_of, kind_of, elements_of, items_of, pairs_of, entries_of, pair_up, find_in, inside_of, before, if_utf8, utf8_text_of};
+ghost use Rattle.cbor_core.specs.Views.{is_item, items_in, whole_of, bytes_of, text_of, tag_of, truth_of, kind_of, elements_of, items_of, pairs_of, entries_of, pair_up, find_in, inside_of, before, before_break, if_utf8, utf8_text_of};
 
 use crate::head::{Fault, Head, MAX_DEPTH, head_at};
 use crate::kind::Kind;
@@ -108,17 +108,18 @@ impl<'a> Item<'a> {
     }
 
     /// The elements of a list, in written order, and nothing for any other item.
-    #[tactic(auto, unfolding(crate::specs::Views::elements_of))]
+    #[tactic(auto, unfolding(crate::specs::Views::elements_of), using(crate::proofs::Counts::items_count))]
     pub fn items(self) -> Items<'a>
-        ensures { items_left result ≡ items_of (span_of self.entry) }
+        ensures left { items_left result ≡ items_of (span_of self.entry) }
+        ensures count { length (items_left result) < 2 ^ 64 }
     {
         let Ok((head, back)) = head_at(self.bytes) else {
             return Items { rest: &[] };
         };
         match head {
             Head::List(Some(_)) => Items { rest: back },
-            Head::List(None) if !back.is_empty() => Items {
-                rest: &back[..back.len() - 1],
+            Head::List(None) => Items {
+                rest: before_break(back),
             },
             _ => Items { rest: &[] },
         }
@@ -164,16 +165,17 @@ impl<'a> Item<'a> {
     }
 
     /// The keys and values of a map, in written order, and nothing for any other item.
-    #[tactic(auto, unfolding(crate::specs::Views::pairs_of))]
+    #[tactic(auto, unfolding(crate::specs::Views::pairs_of), using(crate::proofs::Counts::entries_count))]
     pub fn entries(self) -> Entries<'a>
-        ensures { entries_left result ≡ entries_of (span_of self.entry) }
+        ensures left { entries_left result ≡ entries_of (span_of self.entry) }
+        ensures count { length (entries_left result) < 2 ^ 64 }
     {
         let Ok((head, back)) = head_at(self.bytes) else {
             return Entries::of(&[]);
         };
         match head {
             Head::Map(Some(_)) => Entries::of(back),
-            Head::Map(None) if !back.is_empty() => Entries::of(&back[..back.len() - 1]),
+            Head::Map(None) => Entries::of(before_break(back)),
             _ => Entries::of(&[]),
         }
     }
@@ -188,8 +190,8 @@ impl<'a> Item<'a> {
         };
         match head {
             Head::List(Some(_)) | Head::Map(Some(_)) | Head::Tag(_) => Items { rest: back },
-            Head::List(None) | Head::Map(None) if !back.is_empty() => Items {
-                rest: &back[..back.len() - 1],
+            Head::List(None) | Head::Map(None) => Items {
+                rest: before_break(back),
             },
             _ => Items { rest: &[] },
         }
@@ -208,6 +210,13 @@ impl<'a> Item<'a> {
         }
         None
     }
+}
+
+/// The bytes without the break at their end.
+fn before_break(bytes: &[u8]) -> &[u8]
+    ensures { result.now ≡ before_break bytes.now }
+{
+    &bytes[..bytes.len().saturating_sub(1)]
 }
 
 /// The bytes as a text, if they are UTF-8.
