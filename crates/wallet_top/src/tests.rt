@@ -42,7 +42,7 @@ fn stored(alloc: Global, query: &str, trees: &[u8]) -> Result<MemoryStore, Fail>
 // One line that matches, padded to so many bytes.
 fn padded(alloc: Global, size: usize) -> Result<Vec<u8>, Fail> {
     let mut bytes = Vec::from_slice(alloc, b"{\"given_name\":1}")?;
-    while bytes.len() < size {
+    for _ in bytes.len()..size {
         bytes.push(b' ')?;
     }
     Ok(bytes)
