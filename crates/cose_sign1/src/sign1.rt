@@ -1,0 +1,149 @@
+// A signed message.
+ghost use Rattle.std.specs.Prelude.{◌≡◌, None, Some, IfOk, IfErr, option_map};
+ghost use Rattle.cbor_core.specs.Seen.{span_of};
+ghost use Rattle.cose_sign1.specs.Parts.{said, headers_of};
+ghost use Rattle.cose_sign1.specs.Refusal.{IsRefusal};
+ghost use Rattle.cose_sign1.specs.Sign1.{sign1_rule, message_in, signed_bytes, algorithm_in, algorithm_of, has_critical, protected_of, protected_rule, is_where};
+
+use crate::error::{Error, NoMemory};
+use crate::headers::find_label;
+use crate::parts::Parts;
+use crate::payload::Payload;
+use cbor_core::{Item, Kind, Writer, read_one};
+use claim_tree::Alg;
+use std::alloc::Global;
+
+const PROTECTED_LEVELS: u32 = 32;
+
+const ALGORITHM: i128 = 1;
+
+const CRITICAL: i128 = 2;
+
+/// A COSE_Sign1 message (RFC 9052), where it lies.
+#[derive(Clone, Copy)]
+pub struct Sign1<'a> {
+    pub(crate) parts: Parts<'a>,
+    pub(crate) protected: Option<Item<'a>>,
+    algorithm: i128,
+    ghost headers: { headers_of protected ≡ protected_of parts.protected.now },
+    ghost named: { algorithm_of (said parts) ≡ Some algorithm },
+}
+
+impl<'a> Sign1<'a> {
+    ghost use Rattle.cose_sign1.specs.Message.{message, IsCose};
+
+    /// Reads a signed message. Nothing is judged about its signature.
+    ///
+    /// # Errors
+    ///
+    /// The least rule that is broken: 1 not a list of four, under tag 18 or none, of protected bytes, unprotected map,
+    /// payload bytes or null, and signature bytes; 2 protected bytes that are neither none nor one map of at most 32
+    /// levels; 3 an algorithm (label 1) that is missing in the protected map or no integer; 4 critical headers (label 2),
+    /// since no extension is understood; 5 a payload that is null where it is awaited inside, or bytes where it is
+    /// detached.
+    #[tactic(auto, unfolding(rule_tables::specs::Rules::rule, crate::specs::Sign1::sign1_rule))]
+    pub fn read(alloc: Global, item: Item<'a>, awaited: Payload) -> Result<Sign1<'a>, Error>
+        ensures sound { IfOk result (λ s. sign1_rule awaited (span_of item.entry) ≡ None) }
+        ensures read { IfOk result (λ s. message_in (span_of item.entry) ≡ Some (message s)) }
+        ensures refused { IfErr result (λ e. IsRefusal (sign1_rule awaited (span_of item.entry)) e) }
+    {
+        let Some(parts) = Parts::of(item) else {
+            return Err(Error::Refused(1));
+        };
+        let protected = protected_map(alloc, parts.protected)?;
+        let Some(algorithm) = algorithm_in(protected) else {
+            return Err(Error::Refused(3));
+        };
+        if has_critical(protected) || has_critical(Some(parts.unprotected)) {
+            return Err(Error::Refused(4));
+        }
+        if !is_where(awaited, parts.payload) {
+            return Err(Error::Refused(5));
+        }
+        Ok(Sign1 {
+            parts,
+            protected,
+            algorithm,
+        })
+    }
+
+    /// The payload, if it is inside.
+    pub fn payload(&self) -> Option<&'a [u8]>
+        ensures { option_map (λ b. b.now) result ≡ (message self.now).payload }
+    {
+        self.parts.payload
+    }
+
+    pub fn signature(&self) -> &'a [u8]
+        ensures { result.now ≡ (message self.now).signature }
+    {
+        self.parts.signature
+    }
+
+    /// The algorithm that the protected map names.
+    pub fn alg(&self) -> Alg<'a>
+        ensures { IsCose (algorithm_of (message self.now)) result }
+    {
+        Alg::Cose(self.algorithm)
+    }
+
+    /// What the signature is over, with this payload.
+    pub fn to_be_signed(&self, alloc: Global, payload: &[u8]) -> Result<Vec<u8>, NoMemory>
+        ensures { IfOk result (λ v. v.items ≡ signed_bytes (message self.now).protected payload.now) }
+    {
+        let mut writer = Writer::new(alloc);
+        writer.list(4)?;
+        writer.text("Signature1")?;
+        writer.bytes(self.parts.protected)?;
+        writer.bytes(&[])?;
+        writer.bytes(payload)?;
+        Ok(writer.finish())
+    }
+}
+
+// The map that the protected bytes are, if there are any.
+#[tactic(auto, unfolding(rule_tables::specs::Rules::rule, crate::specs::Sign1::protected_rule))]
+fn protected_map<'a>(alloc: Global, bytes: &'a [u8]) -> Result<Option<Item<'a>>, Error>
+    ensures sound { IfOk result (λ _. protected_rule bytes.now ≡ None) }
+    ensures read { IfOk result (λ headers. headers_of headers ≡ protected_of bytes.now) }
+    ensures refused { IfErr result (λ e. IsRefusal (protected_rule bytes.now) e) }
+{
+    if bytes.is_empty() {
+        return Ok(None);
+    }
+    match read_one(alloc, bytes, PROTECTED_LEVELS) {
+        Ok(item) => {
+            if matches!(item.kind(), Kind::Map) {
+                Ok(Some(item))
+            } else {
+                Err(Error::Refused(2))
+            }
+        }
+        Err(cbor_core::Error::Refused(_)) => Err(Error::Refused(2)),
+        Err(cbor_core::Error::NoMemory) => Err(Error::NoMemory),
+    }
+}
+
+fn algorithm_in(headers: Option<Item>) -> Option<i128>
+    ensures { result ≡ algorithm_in (headers_of headers.entry) }
+{
+    find_label(headers?, ALGORITHM)?.whole()
+}
+
+fn has_critical(headers: Option<Item>) -> bool
+    ensures { result ≡ has_critical (headers_of headers.entry) }
+{
+    match headers {
+        Some(headers) => find_label(headers, CRITICAL).is_some(),
+        None => false,
+    }
+}
+
+fn is_where(awaited: Payload, payload: Option<&[u8]>) -> bool
+    ensures { result ≡ is_where awaited (option_map (λ b. b.now) payload.entry) }
+{
+    match awaited {
+        Payload::Inside => payload.is_some(),
+        Payload::Detached => payload.is_none(),
+    }
+}

@@ -1,0 +1,82 @@
+// Whole messages, as hexadecimal.
+use crate::{Error, Payload, Sign1};
+use base_forms::{from_hex, to_hex};
+use cbor_core::read_one;
+use claim_tree::Alg;
+
+// Messages of each refusal, and of pairs of which the lesser wins.
+#[test]
+fn refusals(rt: HostRuntime) {
+    let alloc = rt.alloc();
+    for (hex, awaited, rule) in [
+        ("d38443a10126a0416140", Payload::Inside, 1),
+        ("8343a10126a04161", Payload::Inside, 1),
+        ("8543a10126a041614040", Payload::Inside, 1),
+        ("84a0a0416140", Payload::Inside, 1),
+        ("8443a1012640416140", Payload::Inside, 1),
+        ("8443a10126a0616140", Payload::Inside, 1),
+        ("8443a10126a04161f6", Payload::Inside, 1),
+        ("844101a0416140", Payload::Inside, 2),
+        ("8444a1012600a0416140", Payload::Inside, 2),
+        ("8440a0416140", Payload::Inside, 3),
+        ("8444a1016161a0416140", Payload::Inside, 3),
+        ("8440a10126416140", Payload::Inside, 3),
+        ("8446a20126028101a0416140", Payload::Inside, 4),
+        ("8443a10126a1028101416140", Payload::Inside, 4),
+        ("8443a10126a1028101f640", Payload::Inside, 4),
+        ("8443a10126a0f640", Payload::Inside, 5),
+        ("8443a10126a0416140", Payload::Detached, 5),
+    ] {
+        let bytes = from_hex(alloc, hex).expect(&rt, "hexadecimal");
+        let item = read_one(alloc, &bytes, 32).expect(&rt, "an item");
+        match Sign1::read(alloc, item, awaited) {
+            Ok(_) => assert!(rt; false, "{hex} is read"),
+            Err(error) => assert!(rt; error == Error::Refused(rule), "of {hex}"),
+        }
+    }
+}
+
+// The names of issuers, from the unprotected headers first.
+#[test]
+fn issuers(rt: HostRuntime) {
+    let alloc = rt.alloc();
+    let certified = "x5:ba7816bf8f01cfea414140de5dae2223b00361a396177a9cb410ff61f20015ad";
+    for (hex, awaited, name) in [
+        ("8443a10126a0416140", Payload::Inside, "mkid:"),
+        ("d28443a10126a0f640", Payload::Detached, "mkid:"),
+        ("8443a10126a1044131416140", Payload::Inside, "mkid:31"),
+        ("8446a20126044132a0416140", Payload::Inside, "mkid:32"),
+        ("8446a20126044132a1044131416140", Payload::Inside, "mkid:31"),
+        ("8443a10126a1182143616263416140", Payload::Inside, certified),
+        (
+            "8443a10126a118218143616263416140",
+            Payload::Inside,
+            certified,
+        ),
+        (
+            "8449a20126182143616263a118216161416140",
+            Payload::Inside,
+            certified,
+        ),
+    ] {
+        let bytes = from_hex(alloc, hex).expect(&rt, "hexadecimal");
+        let item = read_one(alloc, &bytes, 32).expect(&rt, "an item");
+        let message = Sign1::read(alloc, item, awaited).expect(&rt, "a signed message");
+        assert!(rt; message.alg() == Alg::Cose(-7), "of {hex}");
+        let issuer = message.issuer_name(alloc).expect(&rt, "a name");
+        assert_eq!(rt; issuer.text(), name, "of {hex}");
+    }
+}
+
+#[test]
+fn signed_bytes(rt: HostRuntime) {
+    let alloc = rt.alloc();
+    let bytes = from_hex(alloc, "8443a10126a0416140").expect(&rt, "hexadecimal");
+    let item = read_one(alloc, &bytes, 32).expect(&rt, "an item");
+    let message = Sign1::read(alloc, item, Payload::Inside).expect(&rt, "a signed message");
+    assert!(rt; message.payload() == Some(b"a".as_slice()));
+    assert!(rt; message.signature().is_empty());
+    let signed = message.to_be_signed(alloc, b"a").expect(&rt, "bytes");
+    let hex = to_hex(alloc, &signed).expect(&rt, "hexadecimal");
+    assert_eq!(rt; hex.as_str(), "846a5369676e61747572653143a10126404161");
+}
