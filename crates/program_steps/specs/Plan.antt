@@ -31,6 +31,12 @@ first_refusal [] answer = answer
 first_refusal (asks object refusal ∷ steps) answer = unless_refused refusal (first_refusal steps answer)
 first_refusal (looks refusal ∷ steps) answer = unless_refused refusal (first_refusal steps answer)
 
+-- none of the steps refuses
+abbrev pub ArePassed : List Step → Type 0
+ArePassed [] = ⊤
+ArePassed (asks object refusal ∷ steps) = (refusal ≡ None) × ArePassed steps
+ArePassed (looks refusal ∷ steps) = (refusal ≡ None) × ArePassed steps
+
 -- the first refusal, or the answer where no step refuses
 abbrev pub outcome_of : Plan → Outcome
 outcome_of p = first_refusal p.steps p.answer
@@ -45,6 +51,10 @@ file_refusal limit name bad (Some bytes) =
     if nat_lt limit (length bytes) then Some (too_long name) else option_map (file_refused name) (bad bytes)
 
 -- ---- faults
+
+-- it is a file
+abbrev pub IsFile : Object → Type 0
+IsFile (file name) = ⊤
 
 -- how often each object has failed
 abbrev pub Counts : Type 0
@@ -69,6 +79,10 @@ IsFaultIn before after (looks refusal ∷ steps) owed = (refusal ≡ None) × Is
 abbrev pub IsFaultAmong : Counts → Counts → List Object → Outcome → Type 0
 IsFaultAmong before after [] owed = ⊥
 IsFaultAmong before after (object ∷ objects) owed = IsFaultOf before after object owed ⊎ IsFaultAmong before after objects owed
+
+-- what is owed is the line of a counted fault of an object that may be asked
+abbrev pub IsFaultFrom : Counts → Counts → (Object → Type 0) → Outcome → Type 0
+IsFaultFrom before after MayAsk owed = (object : Object) × MayAsk object × IsFaultOf before after object owed
 
 -- no count of these objects rose
 abbrev pub NoneRose : Counts → Counts → List Object → Type 0

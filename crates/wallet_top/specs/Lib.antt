@@ -1,4 +1,9 @@
+pub mod Asked
 pub mod Command
+pub mod Entries
 pub mod Lines
+pub mod Listing
 pub mod Meaning
+pub mod Met
 pub mod Try
+pub mod Wallet

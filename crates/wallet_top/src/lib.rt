@@ -4,9 +4,17 @@
 #![tactic(auto)]
 
 mod command;
+mod credential_file;
+mod ending;
+mod finding;
+mod line_error;
+mod listing;
+mod matching;
+mod query_file;
 mod top;
 mod trees;
 mod trying;
+mod wallet;
 
 pub use top::run;
 

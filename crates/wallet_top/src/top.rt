@@ -3,13 +3,14 @@ ghost use Rattle.std.specs.Prelude.{◌≡◌, ◌≢◌, ◌≤◌, ℕ, List, 
 ghost use Rattle.std.specs.Io.KnownBytes.{Appends};
 ghost use Rattle.outside.specs.Causes.{Rose};
 ghost use Rattle.program_steps.specs.Outcome.{read_fault};
-ghost use Rattle.program_steps.specs.Plan.{outcome_of, IsFaultAmong, NoneRose};
+ghost use Rattle.program_steps.specs.Plan.{outcome_of, asked, IsFaultFrom, NoneRose};
 ghost use Rattle.program_steps.specs.Replies.{Replies, Blames};
 ghost use Rattle.program_steps.specs.Ends.{Answers};
-ghost use Rattle.wallet_top.specs.Command.{command_of, plan_of, plan_of_command, objects_of, objects_of_command, counts};
+ghost use Rattle.wallet_top.specs.Command.{command_of, plan_of, plan_of_command, MayAsk, MayBeAsked, counts};
 ghost use Rattle.wallet_top.specs.Meaning.{meaning};
 
 use super::command::{Command, read_command};
+use super::listing::list_credentials;
 use super::trying::try_query;
 use outside::{Sink, Status, Store};
 use program_steps::{Fault, Reply, Stop, finish};
@@ -17,6 +18,10 @@ use std::alloc::Global;
 
 /// All that `vpwallet` does with the words after its name. Each file is read and looked at before the next, and the text is
 /// written at once, at the end.
+///
+/// `list QUERY WALLET` prints, for each credential of the wallet file WALLET, from 0, `note N unreadable RULE` where it cannot be
+/// read, or `match N` where its claim tree has hits for every claim of some claim set of the query in the file QUERY; and then
+/// `end`, or `none` where nothing matches.
 ///
 /// `try QUERY TREES` prints `match N` for each line of the file TREES, from 0, whose claim tree has hits for every claim of
 /// some claim set of the query in the file QUERY, and then `end`; or `none` where there is no such line.
@@ -29,15 +34,15 @@ pub fn run<S: Store, O: Sink>(alloc: Global, words: &[String], store: &mut S, ou
 
     // Where no count of what the command asks rose and memory was not wanting, all of that outcome is written and answered.
     ensures complete { IfSome (plan_of (command_of (map string_bytes words.now)) (S.files store.old)) (λ plan.
-        NoneRose (counts (S.faults store.old)) (counts (S.faults store.new)) (objects_of (command_of (map string_bytes words.now)))
+        NoneRose (counts (S.faults store.old)) (counts (S.faults store.new)) (asked plan.steps)
         → ¬ Rose (O.faults out.old) (O.faults out.new) → result ≢ Status.NoMemory
         → (result ≡ (outcome_of plan).status) × Appends (O.written out.old) (O.written out.new) (outcome_of plan).text) }
 
     // Over every store and sink, whether they tell or not.
     ensures usage { result ≡ Status.Usage → command_of (map string_bytes words.now) ≡ None }
     ensures no_command { command_of (map string_bytes words.now) ≡ None → result ≢ Status.WriteFault → result ≡ Status.Usage }
-    ensures read_fault { result ≡ Status.ReadFault → IsFaultAmong (counts (S.faults store.old)) (counts (S.faults store.new))
-        (objects_of (command_of (map string_bytes words.now))) read_fault }
+    ensures read_fault { result ≡ Status.ReadFault → IsFaultFrom (counts (S.faults store.old)) (counts (S.faults store.new))
+        (MayBeAsked (command_of (map string_bytes words.now))) read_fault }
     ensures write_fault { result ≡ Status.WriteFault → Rose (O.faults out.old) (O.faults out.new) }
 
     ensures files { S.files store.new ≡ S.files store.old }
@@ -62,9 +67,10 @@ fn perform<S: Store>(alloc: Global, command: Command<'_>, store: &mut S) -> Resu
     ensures reply { IfSome (S.files store.old) (λ files.
         Replies (counts (S.faults store.old)) (counts (S.faults store.new)) (plan_of_command (meaning command.entry) files) result) }
     ensures blame { IfErr result (λ stop.
-        Blames (counts (S.faults store.old)) (counts (S.faults store.new)) (objects_of_command (meaning command.entry)) stop) }
+        Blames (counts (S.faults store.old)) (counts (S.faults store.new)) (MayAsk (meaning command.entry)) stop) }
 {
     match command {
         Command::Try { query, trees } => try_query(alloc, query, trees, store),
+        Command::List { query, wallet } => list_credentials(alloc, query, wallet, store),
     }
 }

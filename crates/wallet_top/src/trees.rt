@@ -1,38 +1,19 @@
 // The lines of a trees file, of which one tree is in memory at a time.
 ghost use Rattle.std.specs.Prelude.{◌≡◌, ◌≤◌, ◌<◌, ◌+◌, ◌++◌, [], ◌∷◌, ℕ, List, None, true, length, is_some, IfOk, IfErr, string_bytes, codes, if◌then◌else◌};
 ghost use Rattle.std.specs.Option.{option_copied};
-ghost use Rattle.std.specs.Fmt.{decimal};
 ghost use Rattle.program_steps.specs.Lines.{lines_of};
-ghost use Rattle.program_steps.specs.Outcome.{line};
 ghost use Rattle.claim_tree.specs.Accepted.{accepted};
 ghost use Rattle.wallet_top.specs.Lines.{IsBadLine};
-ghost use Rattle.wallet_top.specs.Try.{bad_line, is_met, is_match, matching, match_lines};
+ghost use Rattle.wallet_top.specs.Try.{bad_line, is_match, matching, match_lines, match_line};
 
-use claim_tree::{ClaimView, Error, PlainTree};
-use dcql_query::{CredentialQuery, claims_met};
+use crate::line_error::LineError;
+use crate::matching::has_asked;
+use claim_tree::{Error, PlainTree};
+use dcql_query::CredentialQuery;
 use program_steps::cut_line;
 use std::alloc::{AllocError, Global};
 
 const MOST_LINES: u64 = 1024;
-
-/// Why the lines were not all looked at.
-#[derive(Clone, Copy, Debug, PartialEq, Eq)]
-pub enum LineError {
-    /// The line with this number, from 1, is no claim tree, or there are too many lines.
-    Refused(u64),
-    /// Want of memory.
-    NoMemory,
-}
-
-impl From<AllocError> for LineError {
-    ghost use Rattle.wallet_top.specs.declared.trees.LineError.TheVariants.{NoMemory};
-
-    ghost from_gives = { λ _ e. e ≡ NoMemory };
-
-    fn from(_: AllocError) -> Self {
-        LineError::NoMemory
-    }
-}
 
 /// The line `match N` for each line, from 0, whose tree has what the credential query asks for, if there is one.
 ///
@@ -79,28 +60,15 @@ fn is_match(
         return Err(LineError::Refused(number + 1));
     }
     match PlainTree::read(alloc, text) {
-        Ok(tree) => match asked {
-            Some(query) => Ok(is_met(query, tree.root())),
-            None => Ok(false),
-        },
+        Ok(tree) => Ok(has_asked(asked, tree.root())),
         Err(Error::Refused(_)) => Err(LineError::Refused(number + 1)),
         Err(Error::NoMemory) => Err(LineError::NoMemory),
     }
 }
 
-fn is_met<'a, V: ClaimView<'a>>(query: &CredentialQuery, view: V) -> bool
-    ensures { result ≡ is_met query.now (V.tree view) }
-{
-    for set in 0..query.set_count() {
-        if claims_met(query, set, view) {
-            return true;
-        }
-    }
-    false
-}
-
-fn add_match(text: &mut String, number: u64) -> Result<(), AllocError>
-    ensures { IfOk result (λ _. string_bytes text.new ≡ string_bytes text.old ++ line (codes "match " ++ decimal number)) }
+/// Adds the line of a number that matches.
+pub fn add_match(text: &mut String, number: u64) -> Result<(), AllocError>
+    ensures { IfOk result (λ _. string_bytes text.new ≡ string_bytes text.old ++ match_line number) }
 {
     write!(text, "match {number}\n")?;
     Ok(())

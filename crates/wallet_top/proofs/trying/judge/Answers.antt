@@ -7,7 +7,8 @@ use Rattle.program_steps.specs.Outcome.{Outcome, file_refused}
 use Rattle.program_steps.specs.Plan.{looks, first_refusal, unless_refused}
 use Rattle.program_steps.specs.Reading.{text_in}
 use Rattle.program_steps.specs.Replies.{outcome}
-use Rattle.wallet_top.specs.Try.{bad_line, rule_refusal, count_refusal, only, found, match_lines, matching}
+use Rattle.wallet_top.specs.Asked.{rule_refusal, count_refusal, only}
+use Rattle.wallet_top.specs.Try.{bad_line, found, match_lines, matching}
 use Rattle.wallet_top.specs.Lines.{ended, replied, judged}
 use Rattle.wallet_top.proofs.trying.judge.Goals as goal
 
@@ -25,7 +26,7 @@ text_is bytes text false e = absurd (cc)
 
 -- where the file is a text whose lines are claim trees, the query decides
 judged_is : (trees : List ℕ) (asked : Result Query ℕ) (bytes text : List ℕ) → text_in bytes ≡ Some text → bad_line 1 (lines_of text) ≡ None
-    → replied asked (match_lines (matching (only asked) 0 (lines_of text))) ≡ judged trees asked bytes
+    → replied asked (ended (match_lines (matching (only asked) 0 (lines_of text)))) ≡ judged trees asked bytes
 judged_is trees asked bytes text is_text fine =
     let same = text_is bytes text (is_utf8 bytes) is_text in
     let rest : Outcome → Outcome = first_refusal (looks (rule_refusal asked) ∷ looks (count_refusal asked) ∷ []) in
@@ -40,8 +41,8 @@ returns-in-Ok c =
     let text = c.in-Some.text.now in
     let written : string_bytes c.in-Ok.found ≡ match_lines (matching (only asked) 0 (lines_of text)) =
     c.in-Ok.ensures.found ∙ ap (λ (o : Option Credential). match_lines (matching o 0 (lines_of text))) c.only.ensures in
-    let same : replied asked (string_bytes c.in-Ok.found) ≡ judged c.args.name.now _ c.args.bytes.now =
-    ap (replied asked) written
+    let same : replied asked (ended (string_bytes c.in-Ok.found)) ≡ judged c.args.name.now _ c.args.bytes.now =
+    ap (λ (t : List ℕ). replied asked (ended t)) written
     ∙ judged_is c.args.name.now asked c.args.bytes.now text (sym c.in-Some.ensures) c.in-Ok.ensures.lines
     ∙ ap (λ (a : Result Query ℕ). judged c.args.name.now a c.args.bytes.now) c.in_ok-asked.ensures in
-    subst (λ (o : Outcome). IfOk c.reply.result (λ reply. outcome reply ≡ o)) same c.reply.ensures
+    subst (λ (o : Outcome). IfOk c.replied.result (λ reply. outcome reply ≡ o)) same (rw c.in_ok-all_matches-in-Ok.ensures at c.replied.ensures)

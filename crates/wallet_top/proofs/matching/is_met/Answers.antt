@@ -4,8 +4,8 @@ use Rattle.claim_tree.specs.Tree.{Tree}
 use Rattle.dcql_query.specs.Query.{Credential}
 use Rattle.dcql_query.specs.Claims.{claims_met}
 use Rattle.dcql_query.proofs.Ranges.{range_step}
-use Rattle.wallet_top.specs.Try.{is_some_met}
-use Rattle.wallet_top.proofs.trees.is_met.Goals as goal
+use Rattle.wallet_top.specs.Met.{is_some_met}
+use Rattle.wallet_top.proofs.matching.is_met.Goals as goal
 
 -- the first of these claim sets is not met
 past : (q : Credential) (t : Tree) (n i : ℕ) → i < n → claims_met q i t ≡ false

@@ -1,0 +1,3 @@
+pub mod Feeds
+pub mod Listings
+pub mod ListPlans

@@ -1,0 +1,54 @@
+use Rattle.std.proofs.Common.{◌≡◌, ◌∙◌, sym, ap, map, string_bytes, refl, arith, rules}
+use Rattle.std.proofs.lemmas.Result.{err_from_is_err_and}
+use Rattle.serde_json.specs.View.{view}
+use Rattle.program_steps.specs.Replies.{outcome}
+use Rattle.program_steps.proofs.Plans.{blames_file, cause_from}
+use Rattle.wallet_top.specs.Command.{list_credentials, MayAsk}
+use Rattle.wallet_top.specs.Entries.{meant}
+use Rattle.wallet_top.specs.Lines.{replied}
+use Rattle.wallet_top.specs.Listing.{list_end}
+use Rattle.wallet_top.proofs.ListPlans.{listing_stops_told, listing_answers_told, are_read_told, are_listed_told}
+use Rattle.wallet_top.proofs.listing.list_credentials.Goals as goal
+
+pub returns-in_err-value-clause-blame : goal.returns-in_err-value-clause-blame
+returns-in_err-value-clause-blame g c =
+    let p = err_from_is_err_and c.from_residual.result c.from_residual.ensures.1 in
+    rw (p.1, p.2) (blames_file _ _ (MayAsk (list_credentials c.args.query.now c.args.wallet.now)) c.args.query.now c.in_err-value.field-0.0 tt c.in_err-value.ensures.cause)
+
+pub returns-in_err-entries-clause-blame : goal.returns-in_err-entries-clause-blame
+returns-in_err-entries-clause-blame g c =
+    let p = err_from_is_err_and c.from_residual-in_err-entries.result c.from_residual-in_err-entries.ensures.1 in
+    rw (p.1, p.2) (blames_file _ _ (MayAsk (list_credentials c.args.query.now c.args.wallet.now)) c.args.wallet.now c.in_err-entries.field-0.0 tt
+        (cause_from _ _ _ c.in_err-entries.field-0.0 (c.in_ok-value.ensures.later c.args.wallet.now) c.in_err-entries.ensures.cause))
+
+pub returns-in_err-listing-clause-reply : goal.returns-in_err-listing-clause-reply
+returns-in_err-listing-clause-reply g c =
+    let p = err_from_is_err_and c.from_residual-in_err-listing.result c.from_residual-in_err-listing.ensures.1 in
+    let query = c.args.query.now in
+    let wallet = c.args.wallet.now in
+    let es = map meant c.in_ok-entries.entries.items in
+    let first = c.in_ok-value.ensures.same in
+    let second = c.in_ok-entries.ensures.same ∙ first in
+    let are_read = are_read_told query wallet (g.S.Store.files c.args.store.now) es c.in_ok-value.ensures.passed (rw first at c.in_ok-entries.ensures.passed) (rw first at c.in_ok-entries.ensures.entries) in
+    rw (p.1, p.2) (listing_stops_told query wallet (g.S.Store.files c.args.store.now) (g.S.Store.faults c.args.store.now) (g.S.Store.faults c.read_wallet.new.store) (g.S.Store.faults c.list_entries.new.store) es c.in_err-listing.field-0.0
+        (λ name. omega (arith, c.in_ok-value.ensures.later name, c.in_ok-entries.ensures.later name))
+        are_read (rw (second, c.deref.ensures.value) at c.in_err-listing.ensures.stopped))
+
+pub returns-clause-reply : goal.returns-clause-reply
+returns-clause-reply g c =
+    let query = c.args.query.now in
+    let wallet = c.args.wallet.now in
+    let told = g.S.Store.files c.args.store.now in
+    let es = map meant c.in_ok-entries.entries.items in
+    let asked = c.in_ok-asked.asked in
+    let first = c.in_ok-value.ensures.same in
+    let second = c.in_ok-entries.ensures.same ∙ first in
+    let are_read = are_read_told query wallet told es c.in_ok-value.ensures.passed (rw first at c.in_ok-entries.ensures.passed) (rw first at c.in_ok-entries.ensures.entries) in
+    let are_listed = are_listed_told query told es (view c.in_ok-value.value) asked (string_bytes c.in_ok-listing.listing.text) c.in_ok-listing.listing.has_match
+        c.in_ok-asked.ensures
+        c.in_ok-value.ensures.value
+        (rw (second, c.deref.ensures.value) at c.in_ok-listing.ensures.passed)
+        (rw (second, c.deref.ensures.value, c.only.ensures) at c.in_ok-listing.ensures.text)
+        (rw (second, c.deref.ensures.value, c.only.ensures) at c.in_ok-listing.ensures.has_match) in
+    listing_answers_told query wallet told es asked (string_bytes c.in_ok-listing.listing.text) c.in_ok-listing.listing.has_match (outcome c.in_ok-replied.field-0)
+        (c.in_ok-replied.ensures ∙ ap (replied asked) c.in_ok-listing_reply.ensures) are_read are_listed

@@ -1,0 +1,66 @@
+// A credential file against a credential query.
+ghost use Rattle.std.specs.Prelude.{◌≡◌, IfOk};
+ghost use Rattle.std.specs.Option.{option_copied};
+ghost use Rattle.claim_tree.specs.Tree.{Tree};
+ghost use Rattle.wallet_top.specs.Listing.{tree_finding, sd_finding, text_finding, without_feed, file_finding};
+
+use crate::finding::Finding;
+use crate::matching::has_asked;
+use claim_tree::{ClaimView, Format};
+use dcql_query::CredentialQuery;
+use program_steps::text_of;
+use sdjwt_view::{Error, SdCredential};
+use std::alloc::{AllocError, Global};
+
+/// What a credential file of this format with these bytes comes to.
+pub fn judge_file(
+    alloc: Global,
+    format: Format,
+    asked: Option<&CredentialQuery>,
+    bytes: &[u8],
+) -> Result<Finding, AllocError>
+    ensures { IfOk result (λ finding. finding ≡ file_finding format (option_copied asked.entry) bytes.now) }
+{
+    let Some(text) = text_of(bytes) else {
+        return Ok(Finding::Unreadable(0));
+    };
+    match format {
+        Format::SdJwt => judge_sd_jwt(alloc, asked, without_feed(text)),
+        Format::Mdoc => Ok(Finding::Unreadable(0)),
+    }
+}
+
+// A text without the line feed at its end, if it has one.
+fn without_feed(text: &str) -> &str
+    ensures { result.now ≡ without_feed text.now }
+{
+    match text.strip_suffix('\n') {
+        Some(front) => front,
+        None => text,
+    }
+}
+
+fn judge_sd_jwt(
+    alloc: Global,
+    asked: Option<&CredentialQuery>,
+    text: &str,
+) -> Result<Finding, AllocError>
+    ensures { IfOk result (λ finding. finding ≡ sd_finding (option_copied asked.entry) text.now) }
+{
+    match SdCredential::read(alloc, text) {
+        Ok(credential) => Ok(judge_tree(asked, credential.root())),
+        Err(Error::Refused(rule)) => Ok(Finding::Unreadable(rule)),
+        Err(Error::Envelope(_)) => Ok(Finding::Unreadable(2)),
+        Err(Error::NoMemory) => Err(AllocError),
+    }
+}
+
+fn judge_tree<'a, V: ClaimView<'a>>(asked: Option<&CredentialQuery>, root: V) -> Finding
+    ensures { result ≡ tree_finding (option_copied asked.entry) (V.tree root) }
+{
+    if has_asked(asked, root) {
+        Finding::Match
+    } else {
+        Finding::NoMatch
+    }
+}
