@@ -41,9 +41,8 @@ impl<'t> SdCredential<'t> {
     ///
     /// `Envelope` with the rule that the issuer's JWS breaks, where the text ends in `~`; else `Refused` with the first of
     /// the rules that the text breaks: 1 it does not end in `~`; 3 the type of the JWS is not that of an SD-JWT VC; 4 an
-    /// unknown hash; 5 more than 1,024 disclosures; 6 to 8 forms of disclosures, digests and placeholders; 18 a
-    /// disclosure that does not lie directly under the payload; 9 to 13 places and names; 14 more than 64 levels;
-    /// 15 to 17 type, dates and holder. And want of memory.
+    /// unknown hash; 5 more than 1,024 disclosures; 6 to 8 forms of disclosures, digests and placeholders; 9 to 13 places
+    /// and names; 14 more than 64 levels; 15 to 17 type, dates and holder. And want of memory.
     pub fn read(alloc: Global, text: &'t str) -> Result<SdCredential<'t>, Error>
         ensures sound { IfOk result (λ _. refusal_of text.now ≡ None) }
         ensures read { IfOk result (λ c. credential_in text.now ≡ Some (meaning c)) }

@@ -24,4 +24,6 @@ pub use error::{Error, NoMemory};
 pub use view::SdNode;
 
 #[cfg(test)]
+mod place_tests;
+#[cfg(test)]
 mod tests;
