@@ -4,7 +4,6 @@ pub mod Reaching
 pub mod Sets
 pub mod Claims
 pub mod ValueClaims
-pub mod NodeParts
 pub mod HolderKeys
 pub mod PlacingSteps
 pub mod TextParts

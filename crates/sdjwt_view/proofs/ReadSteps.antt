@@ -11,7 +11,8 @@ use Rattle.sdjwt_view.specs.Disclosures.{Utf8}
 use Rattle.sdjwt_view.specs.Reading.{pieces, parts_of, inner_rule, refused, envelope, either_rule, refusal_of_parts, refusal_of, credential_of, credential_in}
 use Rattle.sdjwt_view.specs.Refusal.{IsRefusal, IsInnerRefusal}
 use Rattle.sdjwt_view.specs.Said.{said}
-use Rattle.sdjwt_view.specs.Spelling.{Named, members_of, spelled_payload}
+use Rattle.claim_tree.specs.Parts.{Named, members_of}
+use Rattle.sdjwt_view.specs.Spelling.{spelled_payload}
 use Rattle.sdjwt_view.specs.declared.disclosure.Disclosure.{Disclosure}
 use Rattle.sdjwt_view.specs.declared.error.Error.{Error}
 use Rattle.sdjwt_view.specs.declared.error.Error.TheVariants.{Refused, Envelope as EnvelopeError, NoMemory}

@@ -1,15 +1,14 @@
 // A credential as an SD-JWT.
 ghost use Rattle.std.specs.Prelude.{◌≡◌, true};
 ghost use Rattle.claim_tree.specs.Tree.{is_claim};
-ghost use Rattle.sdjwt_view.specs.Nodes.{tree_of};
+ghost use Rattle.claim_tree.specs.Owned.{tree_of};
 
 use crate::error::{Error, envelope_error};
 use crate::front::split;
-use crate::node::Node;
 use crate::reader::read_inner;
 use crate::view::SdNode;
 use base_forms::HashName;
-use claim_tree::{Facts, Format, KeyName};
+use claim_tree::{Facts, Format, KeyName, OwnedTree};
 use jws_envelope::Jws;
 use std::alloc::Global;
 
@@ -19,7 +18,7 @@ pub struct SdCredential<'t> {
     pub(crate) text: &'t str,
     pub(crate) jws: Jws<'t>,
     pub(crate) hash: HashName,
-    pub(crate) root: Node,
+    pub(crate) root: OwnedTree,
     pub(crate) kind: String,
     pub(crate) issuer: KeyName,
     pub(crate) holder: Option<KeyName>,
@@ -60,7 +59,7 @@ impl<'t> SdCredential<'t> {
 
     /// The root of its claim tree: a record in which each disclosure stands in its place, held.
     pub fn root<'a>(&'a self) -> SdNode<'a>
-        ensures { tree_of result.node.now ≡ (meaning self.now).tree }
+        ensures { tree_of result.node.root.now ≡ (meaning self.now).tree }
     {
         SdNode::new(&self.root)
     }

@@ -1,7 +1,7 @@
 use Rattle.std.proofs.Common.{◌≡◌, ◌+◌, ◌*◌, map, drop}
 use Rattle.serde_json.specs.View.{items_view, members_view}
 use Rattle.sdjwt_view.specs.Held.{all_said}
-use Rattle.sdjwt_view.specs.Nodes.{part_of, named_of}
+use Rattle.claim_tree.specs.Owned.{part_of, named_of}
 use Rattle.sdjwt_view.specs.Places.{texts_in}
 use Rattle.sdjwt_view.specs.Prefixed.{prefixed}
 use Rattle.sdjwt_view.specs.Spelling.{spelled, spelled_elements, plain_members, with_disclosures}

@@ -3,20 +3,20 @@ use Rattle.std.specs.Ordering.{match_ordering}
 use Rattle.std.specs.Cmp.Lexicographic.{slice_cmp}
 use Rattle.std.proofs.lemmas.List.{map-append, take-append-drop}
 use Rattle.claim_tree.specs.Tree.{Tree}
-use Rattle.sdjwt_view.specs.Disclosures.{Utf8}
-use Rattle.sdjwt_view.specs.Nodes.{named_of}
-use Rattle.sdjwt_view.specs.Spelling.{Named, put_member}
-use Rattle.sdjwt_view.specs.declared.node.Member.{Member}
-use Rattle.sdjwt_view.proofs.spell.place_for.Goals as goal
+use Rattle.claim_tree.specs.Tree.{Name}
+use Rattle.claim_tree.specs.Owned.{named_of}
+use Rattle.claim_tree.specs.Parts.{Named, put_member}
+use Rattle.claim_tree.specs.declared.owned.OwnedMember.{OwnedMember}
+use Rattle.claim_tree.proofs.members.place_for.Goals as goal
 
 -- a name that stands first already
-stays_first : (name : Utf8) (held : Bool) (tree : Tree) (first : Named) (rest : List Named) → slice_cmp nat_cmp name first.0 ≡ Equal
+stays_first : (name : Name) (held : Bool) (tree : Tree) (first : Named) (rest : List Named) → slice_cmp nat_cmp name first.0 ≡ Equal
     → put_member (name, held, tree) (first ∷ rest) ≡ first ∷ rest
 stays_first name held tree first rest e =
     ap (λ o. match_ordering o ((name, held, tree) ∷ first ∷ rest) (first ∷ rest) (first ∷ put_member (name, held, tree) rest)) e
 
 -- and one that stands at place i
-stays : (ms : List Member) (i : ℕ) (m : Member) (name : Utf8) (held : Bool) (tree : Tree) → i < length ms → m ≡ get_or ms i m → slice_cmp nat_cmp name (string_bytes m.name) ≡ Equal
+stays : (ms : List OwnedMember) (i : ℕ) (m : OwnedMember) (name : Name) (held : Bool) (tree : Tree) → i < length ms → m ≡ get_or ms i m → slice_cmp nat_cmp name (string_bytes m.name) ≡ Equal
     → map named_of (take i ms) ++ put_member (name, held, tree) (map named_of (drop i ms)) ≡ put_member (name, held, tree) (map named_of ms)
     → put_member (name, held, tree) (map named_of ms) ≡ map named_of ms
 stays ms i m name held tree h is e invariant =
