@@ -45,7 +45,7 @@ found_if : (b : Bool) (l : Disclosed) (o : Option Disclosed) → IsSound l.value
 found_if true l o h rest = h
 found_if false l o h rest = rest
 
-found_sound : (x : Utf8) (ls : List Disclosed) → AreSound ls → IfSome (found x ls) (λ d. IsSound d.value)
+pub found_sound : (x : Utf8) (ls : List Disclosed) → AreSound ls → IfSome (found x ls) (λ d. IsSound d.value)
 found_sound x [] h = tt
 found_sound x (l ∷ ls) h = found_if (bytes_eq l.digest x) l (found x ls) h.0 (found_sound x ls h.1)
 

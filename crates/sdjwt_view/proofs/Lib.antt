@@ -8,3 +8,12 @@ pub mod HolderKeys
 pub mod PlacingSteps
 pub mod TextParts
 pub mod ReadSteps
+pub mod Counting
+pub mod Reached
+pub mod Fields
+pub mod Fits
+pub mod Walks
+pub mod Computed
+pub mod Built
+pub mod Uses
+pub mod Law

@@ -68,10 +68,13 @@ json_sound : (bytes : List ℕ) (o : Option Data) → json_of bytes ≡ o → Is
 json_sound bytes None e = refl
 json_sound bytes (Some d) e = json_claim bytes d e
 
+pub envelope_sound : (j : Utf8) → IsSound (envelope_of (dot_parts j)).payload
+envelope_sound j = json_sound _ _ refl
+
 pub payload_sound : (j : Utf8) (e : Envelope) → jws_of j ≡ Ok e → IsSound e.payload
 payload_sound j e h =
     let both = not_broken (jws_rule j) (envelope_of (dot_parts j)) e h in
-    subst (λ (x : Envelope). IsSound x.payload) both.1 (json_sound _ _ refl)
+    subst (λ (x : Envelope). IsSound x.payload) both.1 (envelope_sound j)
 
 pub all_sound : (ds : List Disclosure) → AreSound (map said ds)
 all_sound [] = tt

@@ -132,7 +132,7 @@ disclosed_names ds (x ∷ xs) = elim (option_and_then (λ d. d.name) (found x ds
 abbrev pub gets_clash : List Utf8 → Members → Bool
 gets_clash ks ms = not (differ ks) || list_any (λ k. is_some (get_member k ms)) ks
 
--- some object within the value gets a name that it has
+-- some object within the value, other than a placeholder, gets a name that it has
 abbrev mutual
   pub has_clash : List Disclosed → Data → Bool
   has_clash ls (array ds) = have_clash ls ds
@@ -141,8 +141,8 @@ abbrev mutual
 
   pub have_clash : List Disclosed → Items → Bool
   have_clash ls no_items = false
-  have_clash ls (item d ds) = has_clash ls d || have_clash ls ds
+  have_clash ls (item d ds) = (not (is_placeholder d) && has_clash ls d) || have_clash ls ds
 
   pub holds_clash : List Disclosed → Members → Bool
   holds_clash ls no_members = false
-  holds_clash ls (member k d ms) = has_clash ls d || holds_clash ls ms
+  holds_clash ls (member k d ms) = (not (bytes_eq k sd) && has_clash ls d) || holds_clash ls ms
