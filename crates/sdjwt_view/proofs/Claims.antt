@@ -11,8 +11,8 @@ use Rattle.claim_tree.specs.Tree.{Name, Tree, ListOf, RecordOf, element_marks, m
 use Rattle.claim_tree.specs.Plain.{plain, plain_elements, plain_members as plain_fields}
 use Rattle.sdjwt_view.specs.Disclosures.{Utf8, is_among, Disclosed, found}
 use Rattle.sdjwt_view.specs.Places.{placeholder, own_digests}
-use Rattle.claim_tree.proofs.Ascending.{below}
-use Rattle.claim_tree.proofs.PutMembers.{named, ascend-put, hold-put}
+use Rattle.claim_tree.proofs.PutMembers.{ascend-put, hold-put}
+use Rattle.claim_tree.specs.Search.{names_of, below}
 use Rattle.claim_tree.specs.Parts.{Part, Named, elements_of, members_of, put_member}
 use Rattle.sdjwt_view.specs.Spelling.{has_placeholder, disclosed_element, spelled_element, spelled_elements, left_out, plain_members, with_disclosure, with_disclosures, spelled_members, spelled, spelled_payload}
 
@@ -117,17 +117,17 @@ list_claim hidden es h = and_from (not (list_any (λ m. m) (element_marks (eleme
 -- ---- records
 
 abbrev AreMembers : List Named → Type 0
-AreMembers ns = (ascend (named ns) ≡ true) × (hold_claims (members_of ns) ≡ true)
+AreMembers ns = (ascend (names_of ns) ≡ true) × (hold_claims (members_of ns) ≡ true)
 
 -- plain members: their names are among those of the object, in their order
 abbrev AreWithin : Fields → List Named → Type 0
-AreWithin ms ns = ((p : Name → Bool) → list_all p (member_names (plain_fields ms)) ≡ true → list_all p (named ns) ≡ true) × AreMembers ns
+AreWithin ms ns = ((p : Name → Bool) → list_all p (member_names (plain_fields ms)) ≡ true → list_all p (names_of ns) ≡ true) × AreMembers ns
 
 kept_within : (k : Utf8) (d : Data) (ms : Fields) (ns : List Named) (t : Tree) → list_all (below k) (member_names (plain_fields ms)) ≡ true → IsGood t → AreWithin ms ns → AreWithin (field k d ms) ((k, false, t) ∷ ns)
 kept_within k d ms ns t first good h = (
-  λ p all. let both = and_parts (p k) (list_all p (member_names (plain_fields ms))) all in and_from (p k) (list_all p (named ns)) both.0 (h.0 p both.1),
+  λ p all. let both = and_parts (p k) (list_all p (member_names (plain_fields ms))) all in and_from (p k) (list_all p (names_of ns)) both.0 (h.0 p both.1),
   (
-    and_from (list_all (below k) (named ns)) (ascend (named ns)) (h.0 (below k) first) (h.1).0,
+    and_from (list_all (below k) (names_of ns)) (ascend (names_of ns)) (h.0 (below k) first) (h.1).0,
     and_from (is_claim t) (hold_claims (members_of ns)) good (h.1).1,
   ),
 )
@@ -171,7 +171,7 @@ members_good is_payload inner good ls all ms h =
     some_and_then (AreWithin ms) AreMembers (with_disclosures inner ls (own_digests ms)) (λ ns x. disclosures_put inner good ls all (own_digests ms) ns x.1) (plain_members is_payload inner ms) (fields_within is_payload inner good ms both.0 both.1)
 
 record_claim : (ns : List Named) → AreMembers ns → IsGood (RecordOf (members_of ns))
-record_claim ns h = and_from (ascend (named ns)) (hold_claims (members_of ns)) h.0 h.1
+record_claim ns h = and_from (ascend (names_of ns)) (hold_claims (members_of ns)) h.0 h.1
 
 -- ---- the whole
 

@@ -1,4 +1,5 @@
 pub mod Spellings
+pub mod Orders
 pub mod FirstPlaces
 pub mod Reaching
 pub mod Sets

@@ -1,13 +1,13 @@
 // The claim that a value spells, with each disclosure in its place.
-ghost use Rattle.std.specs.Prelude.{◌≡◌, ◌≤◌, ◌∷◌, ◌++◌, [], Bool, IfOk, IfSome, OnOk, Some, None, false, option_map, map, length, take, drop, if◌then◌else◌};
-ghost use Rattle.std.specs.Option.{option_map_or};
-ghost use Rattle.claim_tree.specs.Tree.{Tree};
+ghost use Rattle.std.specs.Prelude.{◌≡◌, ◌∷◌, [], IfOk, IfSome, Some, None, true, false, option_map, map, if◌then◌else◌};
+ghost use Rattle.claim_tree.specs.Tree.{ascend};
 ghost use Rattle.serde_json.specs.View.{view, items_view, members_view, number_view};
 ghost use Rattle.claim_tree.specs.Plain.{plain_number};
 ghost use Rattle.sdjwt_view.specs.Disclosures.{is_among, found};
 ghost use Rattle.sdjwt_view.specs.Held.{all_said};
 ghost use Rattle.sdjwt_view.specs.Said.{said};
 ghost use Rattle.claim_tree.specs.Owned.{tree_of, part_of, named_of};
+ghost use Rattle.claim_tree.specs.Search.{names_of};
 ghost use Rattle.sdjwt_view.specs.Nodes.{parts_of};
 ghost use Rattle.sdjwt_view.specs.Places.{own_digests, texts_in};
 ghost use Rattle.sdjwt_view.specs.Spelling.{left_out, spelled, spelled_list, spelled_record, spelled_element, spelled_members, plain_members, with_disclosure, with_disclosures};
@@ -139,7 +139,8 @@ fn spell_plain(
     is_payload: bool,
     object: &Map<String, Value>,
 ) -> Result<Option<Vec<OwnedMember>>, AllocError>
-    ensures { IfOk result
+    ensures order { IfOk result (λ o. IfSome o (λ v. ascend (names_of (map named_of v.items)) ≡ true)) }
+    ensures members { IfOk result
         (λ o. option_map (λ v. map named_of v.items) o ≡ plain_members is_payload (spelled levels (all_said disclosures.now)) (members_view object.now.entries)) }
 {
     let mut members = Vec::new(alloc);
@@ -166,6 +167,7 @@ fn spell_disclosed(
     digests: &Vec<Value>,
     plain: Vec<OwnedMember>,
 ) -> Result<Option<Vec<OwnedMember>>, AllocError>
+    requires { ascend (names_of (map named_of plain.items)) ≡ true }
     ensures { IfOk result
         (λ o. option_map (λ v. map named_of v.items) o ≡ with_disclosures (spelled levels (all_said disclosures.now)) (all_said disclosures.now) (texts_in (items_view digests.now.items)) (map named_of plain.items)) }
 {
@@ -188,7 +190,9 @@ fn put_disclosed(
     digest: &str,
     members: &mut Vec<OwnedMember>,
 ) -> Result<bool, AllocError>
-    ensures { IfOk result
+    requires { ascend (names_of (map named_of members.old.items)) ≡ true }
+    ensures order { ascend (names_of (map named_of members.new.items)) ≡ true }
+    ensures put { IfOk result
         (λ done. with_disclosure (spelled levels (all_said disclosures.now)) (found digest.now (all_said disclosures.now)) (map named_of members.old.items) ≡ (if done then Some (map named_of members.new.items) else None)) }
 {
     let Some(disclosure) = disclosures.find(digest) else {

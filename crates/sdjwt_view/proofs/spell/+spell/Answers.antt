@@ -9,6 +9,7 @@ use Rattle.claim_tree.specs.Owned.{tree_of, named_of}
 use Rattle.sdjwt_view.specs.Prefixed.{prefixed}
 use Rattle.sdjwt_view.specs.Spelling.{spelled, spelled_list, has_placeholder, left_out, plain_members}
 use Rattle.claim_tree.specs.declared.owned.OwnedTree.{List as OwnedList}
+use Rattle.sdjwt_view.proofs.Orders.{plain_ascend}
 use Rattle.sdjwt_view.proofs.Spellings.{spelled-list, spelled-record, list_done, plain_step}
 use Rattle.sdjwt_view.proofs.spell.+spell.Goals as goal
 
@@ -44,3 +45,8 @@ spell_plain-loop-name-preserved-in_ok-push t c =
     ∙ plain_step (map named_of c.loop-name.members.items) c.args.is_payload (spelled c.args.levels (all_said c.args.disclosures.now)) (string_bytes c.in-Some.name.now) (view c.in-Some.value.now) (members_view c.next.new.self) (tree_of c.in-Some-2.tree) kept is
     ∙ ap (λ ms. prefixed (map named_of c.loop-name.members.items) (plain_members c.args.is_payload (spelled c.args.levels (all_said c.args.disclosures.now)) ms)) (sym step)
     ∙ c.loop-name.invariant
+
+pub spell_plain-returns-clause-order : goal.spell_plain-returns-clause-order
+spell_plain-returns-clause-order t c =
+    plain_ascend c.args.is_payload (spelled c.args.levels (all_said c.args.disclosures.now)) c.args.object.now (map named_of c.loop-name.members.items) c.loop-name.name-iterator
+    c.into_iter-name-iterator.ensures.into_iter_gives.5 c.loop-name.invariant c.in-None.ensures.steps.0
