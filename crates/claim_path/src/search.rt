@@ -16,7 +16,6 @@ pub(crate) enum Found {
     Hit,
 }
 
-// Whether `path` hits an element of the tree that `view` shows.
 /// Whether `path` hits anything in the tree that stands at `view`: whether it selects an element that
 /// equals one of `values`, or any element where there are none. It takes no memory.
 pub fn has_hit<'a, V: ClaimView<'a>>(path: &Path, values: Option<&Values>, view: V) -> bool

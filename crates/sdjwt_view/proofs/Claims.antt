@@ -1,20 +1,20 @@
 -- What a credential spells is a claim tree: names ascend, and a list with a held element is loose.
-use Rattle.std.proofs.Common.{◌≡◌, ℕ, zero, suc, Bool, true, false, not, ◌&&◌, ◌||◌, cond, List, [], ◌∷◌, ◌++◌, Option, Some, None, option_map, option_and_then, Ordering, Less, Equal, Greater, nat_cmp, refl, ap, ◌∙◌, subst}
+use Rattle.std.proofs.Common.{◌≡◌, ℕ, zero, suc, Bool, true, false, not, ◌||◌, cond, List, [], ◌∷◌, ◌++◌, Option, Some, None, option_map, option_and_then, refl, ap, ◌∙◌, subst}
 use Rattle.std.specs.Prelude.{⊤, IfSome}
 use Rattle.std.specs.Option.{is_some}
 use Rattle.std.specs.List.{list_all, list_any}
-use Rattle.std.specs.Ordering.{match_ordering, is_lt, ordering_reverse}
-use Rattle.std.specs.Cmp.Lexicographic.{slice_cmp}
 use Rattle.std.specs.Str.{bytes_eq}
 use Rattle.std.proofs.lemmas.Bool.{and_parts, and_from}
-use Rattle.std.proofs.lemmas.Cmp.{nat_list_cmp_total}
 use Rattle.serde_json.specs.Data.{Data, null, boolean, number, string, array, object, unsigned, negative, float, Items, no_items, item, Members as Fields, no_members as no_fields, member as field}
 use Rattle.serde_json.specs.Find.{as_object}
 use Rattle.claim_tree.specs.Tree.{Name, Tree, ListOf, RecordOf, element_marks, member_names, ascend, is_claim, are_claims, hold_claims}
 use Rattle.claim_tree.specs.Plain.{plain, plain_elements, plain_members as plain_fields}
 use Rattle.sdjwt_view.specs.Disclosures.{Utf8, is_among, Disclosed, found}
 use Rattle.sdjwt_view.specs.Places.{placeholder, own_digests}
-use Rattle.sdjwt_view.specs.Spelling.{Part, Named, elements_of, members_of, put_member, has_placeholder, disclosed_element, spelled_element, spelled_elements, left_out, plain_members, with_disclosure, with_disclosures, spelled_members, spelled, spelled_payload}
+use Rattle.claim_tree.proofs.PutMembers.{ascend-put, hold-put}
+use Rattle.claim_tree.specs.Search.{names_of, below}
+use Rattle.claim_tree.specs.Parts.{Part, Named, elements_of, members_of, put_member}
+use Rattle.sdjwt_view.specs.Spelling.{has_placeholder, disclosed_element, spelled_element, spelled_elements, left_out, plain_members, with_disclosure, with_disclosures, spelled_members, spelled, spelled_payload}
 
 -- ---- what holds of what an `Option` has
 
@@ -25,74 +25,6 @@ some_map P Q h k (Some a) x = k a x
 some_and_then : {A B : Type 0} (P : A → Type 0) (Q : B → Type 0) (h : A → Option B) → ((a : A) → P a → IfSome (h a) Q) → (o : Option A) → IfSome o P → IfSome (option_and_then h o) Q
 some_and_then P Q h k None x = tt
 some_and_then P Q h k (Some a) x = k a x
-
--- ---- names that ascend
-
-abbrev below : Name → Name → Bool
-below k l = is_lt (slice_cmp nat_cmp k l)
-
-abbrev named : List Named → List Name
-named ns = member_names (members_of ns)
-
-is_less : (o : Ordering) → is_lt o ≡ true → o ≡ Less
-is_less Less e = refl
-is_less Equal e = cc
-is_less Greater e = cc
-
-below-trans : (k l m : Name) → slice_cmp nat_cmp k l ≡ Less → below l m ≡ true → below k m ≡ true
-below-trans k l m p q = ap is_lt (nat_list_cmp_total.trans k l m p (is_less (slice_cmp nat_cmp l m) q))
-
-all_below : (k l : Name) (ns : List Name) → slice_cmp nat_cmp k l ≡ Less → list_all (below l) ns ≡ true → list_all (below k) ns ≡ true
-all_below k l [] p h = refl
-all_below k l (n ∷ ns) p h =
-    let both = and_parts (below l n) (list_all (below l) ns) h in
-    and_from (below k n) (list_all (below k) ns) (below-trans k l n p both.0) (all_below k l ns p both.1)
-
-above : (k l : Name) → slice_cmp nat_cmp k l ≡ Greater → below l k ≡ true
-above k l e = ap is_lt (nat_list_cmp_total.antisymm l k ∙ ap ordering_reverse e)
-
--- what is true of the name and of the names is true of them after it is put in
-put_all_at : (o : Ordering) (p : Name → Bool) (m l : Named) (ls : List Named) → p m.0 ≡ true → p l.0 ≡ true → list_all p (named ls) ≡ true → list_all p (named (put_member m ls)) ≡ true
-    → list_all p (named (match_ordering o (m ∷ l ∷ ls) (l ∷ ls) (l ∷ put_member m ls))) ≡ true
-put_all_at Less p m l ls pm pl rest later = and_from (p m.0) (p l.0 && list_all p (named ls)) pm (and_from (p l.0) (list_all p (named ls)) pl rest)
-put_all_at Equal p m l ls pm pl rest later = and_from (p l.0) (list_all p (named ls)) pl rest
-put_all_at Greater p m l ls pm pl rest later = and_from (p l.0) (list_all p (named (put_member m ls))) pl later
-
-put_all : (p : Name → Bool) (m : Named) (ls : List Named) → p m.0 ≡ true → list_all p (named ls) ≡ true → list_all p (named (put_member m ls)) ≡ true
-put_all p m [] pm h = and_from (p m.0) true pm refl
-put_all p m (l ∷ ls) pm h =
-    let both = and_parts (p l.0) (list_all p (named ls)) h in
-    put_all_at (slice_cmp nat_cmp m.0 l.0) p m l ls pm both.0 both.1 (put_all p m ls pm both.1)
-
-ascend-put_at : (o : Ordering) (m l : Named) (ls : List Named) → slice_cmp nat_cmp m.0 l.0 ≡ o → list_all (below l.0) (named ls) ≡ true → ascend (named ls) ≡ true → ascend (named (put_member m ls)) ≡ true
-    → ascend (named (match_ordering o (m ∷ l ∷ ls) (l ∷ ls) (l ∷ put_member m ls))) ≡ true
-ascend-put_at Less m l ls is first rest later =
-    and_from (below m.0 l.0 && list_all (below m.0) (named ls)) (list_all (below l.0) (named ls) && ascend (named ls))
-    (and_from (below m.0 l.0) (list_all (below m.0) (named ls)) (ap is_lt is) (all_below m.0 l.0 (named ls) is first))
-    (and_from (list_all (below l.0) (named ls)) (ascend (named ls)) first rest)
-ascend-put_at Equal m l ls is first rest later = and_from (list_all (below l.0) (named ls)) (ascend (named ls)) first rest
-ascend-put_at Greater m l ls is first rest later =
-    and_from (list_all (below l.0) (named (put_member m ls))) (ascend (named (put_member m ls))) (put_all (below l.0) m ls (above m.0 l.0 is) first) later
-
-ascend-put : (m : Named) (ls : List Named) → ascend (named ls) ≡ true → ascend (named (put_member m ls)) ≡ true
-ascend-put m [] h = refl
-ascend-put m (l ∷ ls) h =
-    let both = and_parts (list_all (below l.0) (named ls)) (ascend (named ls)) h in
-    ascend-put_at (slice_cmp nat_cmp m.0 l.0) m l ls refl both.0 both.1 (ascend-put m ls both.1)
-
--- ---- members that are claims
-
-hold-put_at : (o : Ordering) (m l : Named) (ls : List Named) → is_claim m.2 ≡ true → is_claim l.2 ≡ true → hold_claims (members_of ls) ≡ true → hold_claims (members_of (put_member m ls)) ≡ true
-    → hold_claims (members_of (match_ordering o (m ∷ l ∷ ls) (l ∷ ls) (l ∷ put_member m ls))) ≡ true
-hold-put_at Less m l ls p q rest later = and_from (is_claim m.2) (is_claim l.2 && hold_claims (members_of ls)) p (and_from (is_claim l.2) (hold_claims (members_of ls)) q rest)
-hold-put_at Equal m l ls p q rest later = and_from (is_claim l.2) (hold_claims (members_of ls)) q rest
-hold-put_at Greater m l ls p q rest later = and_from (is_claim l.2) (hold_claims (members_of (put_member m ls))) q later
-
-hold-put : (m : Named) (ls : List Named) → is_claim m.2 ≡ true → hold_claims (members_of ls) ≡ true → hold_claims (members_of (put_member m ls)) ≡ true
-hold-put m [] p h = and_from (is_claim m.2) true p refl
-hold-put m (l ∷ ls) p h =
-    let both = and_parts (is_claim l.2) (hold_claims (members_of ls)) h in
-    hold-put_at (slice_cmp nat_cmp m.0 l.0) m l ls p both.0 both.1 (hold-put m ls p both.1)
 
 -- ---- disclosures whose values are claims
 
@@ -113,7 +45,7 @@ found_if : (b : Bool) (l : Disclosed) (o : Option Disclosed) → IsSound l.value
 found_if true l o h rest = h
 found_if false l o h rest = rest
 
-found_sound : (x : Utf8) (ls : List Disclosed) → AreSound ls → IfSome (found x ls) (λ d. IsSound d.value)
+pub found_sound : (x : Utf8) (ls : List Disclosed) → AreSound ls → IfSome (found x ls) (λ d. IsSound d.value)
 found_sound x [] h = tt
 found_sound x (l ∷ ls) h = found_if (bytes_eq l.digest x) l (found x ls) h.0 (found_sound x ls h.1)
 
@@ -185,17 +117,17 @@ list_claim hidden es h = and_from (not (list_any (λ m. m) (element_marks (eleme
 -- ---- records
 
 abbrev AreMembers : List Named → Type 0
-AreMembers ns = (ascend (named ns) ≡ true) × (hold_claims (members_of ns) ≡ true)
+AreMembers ns = (ascend (names_of ns) ≡ true) × (hold_claims (members_of ns) ≡ true)
 
 -- plain members: their names are among those of the object, in their order
 abbrev AreWithin : Fields → List Named → Type 0
-AreWithin ms ns = ((p : Name → Bool) → list_all p (member_names (plain_fields ms)) ≡ true → list_all p (named ns) ≡ true) × AreMembers ns
+AreWithin ms ns = ((p : Name → Bool) → list_all p (member_names (plain_fields ms)) ≡ true → list_all p (names_of ns) ≡ true) × AreMembers ns
 
 kept_within : (k : Utf8) (d : Data) (ms : Fields) (ns : List Named) (t : Tree) → list_all (below k) (member_names (plain_fields ms)) ≡ true → IsGood t → AreWithin ms ns → AreWithin (field k d ms) ((k, false, t) ∷ ns)
 kept_within k d ms ns t first good h = (
-  λ p all. let both = and_parts (p k) (list_all p (member_names (plain_fields ms))) all in and_from (p k) (list_all p (named ns)) both.0 (h.0 p both.1),
+  λ p all. let both = and_parts (p k) (list_all p (member_names (plain_fields ms))) all in and_from (p k) (list_all p (names_of ns)) both.0 (h.0 p both.1),
   (
-    and_from (list_all (below k) (named ns)) (ascend (named ns)) (h.0 (below k) first) (h.1).0,
+    and_from (list_all (below k) (names_of ns)) (ascend (names_of ns)) (h.0 (below k) first) (h.1).0,
     and_from (is_claim t) (hold_claims (members_of ns)) good (h.1).1,
   ),
 )
@@ -239,7 +171,7 @@ members_good is_payload inner good ls all ms h =
     some_and_then (AreWithin ms) AreMembers (with_disclosures inner ls (own_digests ms)) (λ ns x. disclosures_put inner good ls all (own_digests ms) ns x.1) (plain_members is_payload inner ms) (fields_within is_payload inner good ms both.0 both.1)
 
 record_claim : (ns : List Named) → AreMembers ns → IsGood (RecordOf (members_of ns))
-record_claim ns h = and_from (ascend (named ns)) (hold_claims (members_of ns)) h.0 h.1
+record_claim ns h = and_from (ascend (names_of ns)) (hold_claims (members_of ns)) h.0 h.1
 
 -- ---- the whole
 

@@ -35,7 +35,7 @@ or_none : (o : Option ℕ) → option_or o None ≡ o
 or_none None = refl
 or_none (Some n) = refl
 
-same_from : (xs ys : Utf8) → bytes_eq xs ys ≡ true → xs ≡ ys
+pub same_from : (xs ys : Utf8) → bytes_eq xs ys ≡ true → xs ≡ ys
 same_from xs ys h = (bytes_eq-Decides xs ys).0 h
 
 pub place_step : (q : Utf8) (xs : List Utf8) (y : Utf8) → first_place y xs ≡ None → cond (bytes_eq y q) (Some (length xs)) (first_place q xs) ≡ first_place q (xs ++ y ∷ [])
@@ -51,7 +51,7 @@ is_some-first_place x (y ∷ ys) = elim (cases_Bool (bytes_eq y x)) [
   | inr other ↦ rw other (grind (arith, common_steps, is_some-first_place x ys))
 ]
 
-bytes_eq-flip : (xs ys : Utf8) → bytes_eq xs ys ≡ bytes_eq ys xs
+pub bytes_eq-flip : (xs ys : Utf8) → bytes_eq xs ys ≡ bytes_eq ys xs
 bytes_eq-flip xs ys = elim (cases_Bool (bytes_eq xs ys)) [
   | inl same ↦ let is = same_from xs ys same in ap (bytes_eq xs) (sym is) ∙ ap (λ z. bytes_eq z xs) is
   | inr other ↦ elim (cases_Bool (bytes_eq ys xs)) [

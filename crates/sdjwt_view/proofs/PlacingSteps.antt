@@ -10,7 +10,8 @@ use Rattle.sdjwt_view.specs.Placing.{marks_rule, double_rule, reach_rule, depth_
 use Rattle.sdjwt_view.specs.Placed.{IsPlaced, IsOwnPlaced}
 use Rattle.sdjwt_view.specs.declared.placing.Placed.{Placed}
 use Rattle.sdjwt_view.specs.declared.placing.Placed.TheVariants.{Tree, Broken}
-use Rattle.sdjwt_view.specs.Spelling.{Named, spelled_payload}
+use Rattle.claim_tree.specs.Parts.{Named}
+use Rattle.sdjwt_view.specs.Spelling.{spelled_payload}
 use Rattle.sdjwt_view.specs.Said.{said}
 use Rattle.sdjwt_view.specs.Named.{own_digest}
 use Rattle.sdjwt_view.specs.declared.disclosure.Disclosure.{Disclosure}

@@ -11,7 +11,8 @@ use Rattle.sdjwt_view.specs.Disclosures.{Utf8}
 use Rattle.sdjwt_view.specs.Reading.{pieces, parts_of, inner_rule, refused, envelope, either_rule, refusal_of_parts, refusal_of, credential_of, credential_in}
 use Rattle.sdjwt_view.specs.Refusal.{IsRefusal, IsInnerRefusal}
 use Rattle.sdjwt_view.specs.Said.{said}
-use Rattle.sdjwt_view.specs.Spelling.{Named, members_of, spelled_payload}
+use Rattle.claim_tree.specs.Parts.{Named, members_of}
+use Rattle.sdjwt_view.specs.Spelling.{spelled_payload}
 use Rattle.sdjwt_view.specs.declared.disclosure.Disclosure.{Disclosure}
 use Rattle.sdjwt_view.specs.declared.error.Error.{Error}
 use Rattle.sdjwt_view.specs.declared.error.Error.TheVariants.{Refused, Envelope as EnvelopeError, NoMemory}
@@ -67,10 +68,13 @@ json_sound : (bytes : List ℕ) (o : Option Data) → json_of bytes ≡ o → Is
 json_sound bytes None e = refl
 json_sound bytes (Some d) e = json_claim bytes d e
 
+pub envelope_sound : (j : Utf8) → IsSound (envelope_of (dot_parts j)).payload
+envelope_sound j = json_sound _ _ refl
+
 pub payload_sound : (j : Utf8) (e : Envelope) → jws_of j ≡ Ok e → IsSound e.payload
 payload_sound j e h =
     let both = not_broken (jws_rule j) (envelope_of (dot_parts j)) e h in
-    subst (λ (x : Envelope). IsSound x.payload) both.1 (json_sound _ _ refl)
+    subst (λ (x : Envelope). IsSound x.payload) both.1 (envelope_sound j)
 
 pub all_sound : (ds : List Disclosure) → AreSound (map said ds)
 all_sound [] = tt

@@ -1,5 +1,5 @@
 -- What a value spells, step by step.
-use Rattle.std.proofs.Common.{◌≡◌, ◌≤◌, ◌<◌, ℕ, suc, ◌-◌, Bool, false, List, [], ◌∷◌, ◌++◌, length, map, drop, Option, Some, None, option_map, Vec, Global, BTreeMap, String, refl, sym, ap, ◌∙◌, arith, rules, append_assoc, append-nil}
+use Rattle.std.proofs.Common.{◌≡◌, ◌≤◌, ◌<◌, ℕ, suc, ◌-◌, Bool, false, List, [], ◌∷◌, ◌++◌, length, map, drop, Option, Some, None, option_map, Vec, Global, BTreeMap, String, refl, sym, ap, ◌∙◌, arith, append_assoc, append-nil}
 use Rattle.std.proofs.lemmas.List.{drop_all}
 use Rattle.serde_json.specs.Data.{Data, array, object, Items, Members as Fields, member as field}
 use Rattle.serde_json.specs.View.{view, items_view, members_view}
@@ -7,11 +7,13 @@ use Rattle.serde_json.specs.declared.value.Value.{Value, Array, Object}
 use Rattle.serde_json.proofs.Views.{view-Array, view-Object}
 use Rattle.claim_tree.specs.Tree.{Tree, ListOf}
 use Rattle.sdjwt_view.specs.Disclosures.{Utf8, is_among, Disclosed}
-use Rattle.sdjwt_view.specs.Nodes.{tree_of, part_of}
+use Rattle.claim_tree.specs.Owned.{tree_of, part_of}
 use Rattle.sdjwt_view.specs.Prefixed.{prefixed}
-use Rattle.sdjwt_view.specs.Spelling.{Named, elements_of, has_placeholder, left_out, spelled, spelled_list, spelled_record, spelled_elements, plain_members}
-use Rattle.sdjwt_view.specs.declared.node.Element.{Element}
-use Rattle.sdjwt_view.specs.declared.node.Node.{List as ListNode, the_lemmas}
+use Rattle.claim_tree.specs.Parts.{Named, elements_of}
+use Rattle.sdjwt_view.specs.Spelling.{has_placeholder, left_out, spelled, spelled_list, spelled_record, spelled_elements, plain_members}
+use Rattle.claim_tree.specs.declared.owned.OwnedElement.{OwnedElement}
+use Rattle.claim_tree.specs.declared.owned.OwnedTree.{List as OwnedList}
+use Rattle.claim_tree.proofs.OwnedParts.{tree_of-List}
 
 one_more_list : (n m : ℕ) (ls : List Disclosed) (ds : Items) → n ≡ suc m → spelled n ls (array ds) ≡ spelled_list (spelled m ls) ls ds
 one_more_list n m ls ds e = rw e refl
@@ -29,12 +31,9 @@ spelled-record n ls v m is h =
     let e : n ≡ suc (n - 1) = omega arith in
     sym (ap (λ w. spelled n ls (view w)) is ∙ ap (spelled n ls) (view-Object m) ∙ one_more_record n (n - 1) ls (members_view m.entries) e)
 
-pub tree_of-List : (loose : Bool) (v : Vec Element Global) → tree_of (ListNode loose v) ≡ ListOf loose (elements_of (map part_of v.items))
-tree_of-List loose v = search (rules, the_lemmas)
-
-pub list_done : (loose : Bool) (v : Vec Element Global) (inner : Data → Option Tree) (ls : List Disclosed) (items : List Value) (i : ℕ)
+pub list_done : (loose : Bool) (v : Vec OwnedElement Global) (inner : Data → Option Tree) (ls : List Disclosed) (items : List Value) (i : ℕ)
     → prefixed (map part_of v.items) (spelled_elements inner ls (items_view (drop i items))) ≡ spelled_elements inner ls (items_view items) → length items ≤ i → loose ≡ has_placeholder (items_view items)
-    → Some (tree_of (ListNode loose v)) ≡ spelled_list inner ls (items_view items)
+    → Some (tree_of (OwnedList loose v)) ≡ spelled_list inner ls (items_view items)
 list_done loose v inner ls items i invariant end is =
     let none = drop_all i items end in
     let all : spelled_elements inner ls (items_view items) ≡ Some (map part_of v.items) =

@@ -2,7 +2,7 @@
 use Rattle.std.specs.Prelude.{string_bytes}
 use Rattle.jws_envelope.specs.Jws.{envelope}
 use Rattle.sdjwt_view.specs.Reading.{Credential}
-use Rattle.sdjwt_view.specs.Nodes.{tree_of}
+use Rattle.claim_tree.specs.Owned.{tree_of}
 use Rattle.sdjwt_view.specs.declared.credential.SdCredential.{SdCredential}
 
 abbrev pub meaning : SdCredential → Credential

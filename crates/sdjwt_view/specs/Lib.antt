@@ -14,3 +14,5 @@ pub mod Refusal
 pub mod Listed
 pub mod Credential
 pub mod EnvelopeError
+pub mod Relation
+pub mod Laws

@@ -4,7 +4,7 @@ use Rattle.serde_json.specs.Data.{Data}
 use Rattle.sdjwt_view.specs.declared.placing.Placed.{Placed}
 use Rattle.sdjwt_view.specs.declared.placing.Placed.TheVariants.{Tree, Broken}
 use Rattle.sdjwt_view.specs.Disclosures.{Disclosed}
-use Rattle.sdjwt_view.specs.Nodes.{named_of}
+use Rattle.claim_tree.specs.Owned.{named_of}
 use Rattle.sdjwt_view.specs.Placing.{own_place_rule, placing_rule}
 use Rattle.sdjwt_view.specs.Spelling.{spelled_payload}
 

@@ -60,29 +60,6 @@ abbrev mutual
   has_sound no_members = true
   has_sound (member k d ms) = (if bytes_eq k sd then is_list_of_texts d else not (bytes_eq k dots) && is_sound d) && has_sound ms
 
--- some member of the value, or of one inside it, is named `_sd` or `...`
-abbrev mutual
-  pub has_mark : Data → Bool
-  has_mark (array ds) = have_mark ds
-  has_mark (object ms) = holds_mark ms
-  has_mark _ = false
-
-  pub have_mark : Items → Bool
-  have_mark no_items = false
-  have_mark (item d ds) = has_mark d || have_mark ds
-
-  pub holds_mark : Members → Bool
-  holds_mark no_members = false
-  holds_mark (member k d ms) = (bytes_eq k sd || (bytes_eq k dots || has_mark d)) || holds_mark ms
-
--- the same of the members of the payload, but for its own `_sd`
-abbrev pub holds_inner_mark : Members → Bool
-holds_inner_mark no_members = false
-holds_inner_mark (member k d ms) = (not (bytes_eq k sd) && (bytes_eq k dots || has_mark d)) || holds_inner_mark ms
-
-abbrev pub has_inner_mark : Data → Bool
-has_inner_mark d = elim (as_object d) [ None ↦ false | Some ms ↦ holds_inner_mark ms ]
-
 -- ---- all places within a value
 
 -- A digest stands in the `_sd` of an object, or in a placeholder among a list's elements.
@@ -155,7 +132,7 @@ disclosed_names ds (x ∷ xs) = elim (option_and_then (λ d. d.name) (found x ds
 abbrev pub gets_clash : List Utf8 → Members → Bool
 gets_clash ks ms = not (differ ks) || list_any (λ k. is_some (get_member k ms)) ks
 
--- some object within the value gets a name that it has
+-- some object within the value, other than a placeholder, gets a name that it has
 abbrev mutual
   pub has_clash : List Disclosed → Data → Bool
   has_clash ls (array ds) = have_clash ls ds
@@ -164,8 +141,8 @@ abbrev mutual
 
   pub have_clash : List Disclosed → Items → Bool
   have_clash ls no_items = false
-  have_clash ls (item d ds) = has_clash ls d || have_clash ls ds
+  have_clash ls (item d ds) = (not (is_placeholder d) && has_clash ls d) || have_clash ls ds
 
   pub holds_clash : List Disclosed → Members → Bool
   holds_clash ls no_members = false
-  holds_clash ls (member k d ms) = has_clash ls d || holds_clash ls ms
+  holds_clash ls (member k d ms) = (not (bytes_eq k sd) && has_clash ls d) || holds_clash ls ms

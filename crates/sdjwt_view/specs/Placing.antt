@@ -6,7 +6,7 @@ use Rattle.serde_json.specs.Data.{Data}
 use Rattle.serde_json.specs.Find.{as_object}
 use Rattle.rule_tables.specs.Rules.{rule, first}
 use Rattle.sdjwt_view.specs.Disclosures.{Utf8, is_among, differ, Disclosed}
-use Rattle.sdjwt_view.specs.Places.{sd, dots, is_sound, has_mark, has_inner_mark, digest_at, all_places, are_placed, is_mismatch, own_digests, disclosed_names, has_clash}
+use Rattle.sdjwt_view.specs.Places.{sd, dots, is_sound, digest_at, all_places, are_placed, is_mismatch, own_digests, disclosed_names, has_clash}
 use Rattle.sdjwt_view.specs.Spelling.{sd_alg, spelled_payload}
 
 -- names that no disclosure may bring to the top object
@@ -24,12 +24,11 @@ names_mark l = elim l.name [ None ↦ false | Some k ↦ is_mark_name k ]
 abbrev pub top_names : List Disclosed → Data → List Utf8
 top_names ls d = elim (as_object d) [ None ↦ [] | Some ms ↦ disclosed_names ls (own_digests ms) ]
 
--- rules 7 and 8, and that of credentials whose disclosures do not all lie directly under the payload
+-- rules 7 and 8
 unfoldable pub marks_rule : Data → List Disclosed → Option ℕ
 marks_rule payload ls = first
     (rule 7 (list_any names_mark ls)
     ∷ rule 8 (not (is_sound payload && list_all (λ l. is_sound l.value) ls))
-    ∷ rule 18 (has_inner_mark payload || list_any (λ l. has_mark l.value) ls)
     ∷ [])
 
 -- two places hold equal digests

@@ -15,7 +15,8 @@ use Rattle.jws_envelope.specs.Compact.{dot_parts}
 use Rattle.jws_envelope.specs.Envelope.{Envelope, envelope_of, jws_rule, issuer_of}
 use Rattle.claim_tree.specs.Tree.{Tree, RecordOf}
 use Rattle.sdjwt_view.specs.Disclosures.{Utf8, Disclosed, all_disclosed}
-use Rattle.sdjwt_view.specs.Spelling.{sd_alg, Named, members_of, spelled_payload}
+use Rattle.claim_tree.specs.Parts.{Named, members_of}
+use Rattle.sdjwt_view.specs.Spelling.{sd_alg, spelled_payload}
 use Rattle.sdjwt_view.specs.Placing.{placing_rule}
 use Rattle.sdjwt_view.specs.Facts.{facts_rule, kind_of, holder_of, first_of, past_of}
 

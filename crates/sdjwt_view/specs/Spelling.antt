@@ -1,36 +1,12 @@
 -- The claim tree that a JSON value spells once each disclosure stands in its place (RFC 9901, section 7.1).
 use Rattle.std.specs.Prelude.{ℕ, zero, suc, Bool, true, false, ◌||◌, List, [], ◌∷◌, ◌++◌, codes, Option, Some, None, option_map, option_and_then, if◌then◌else◌}
-use Rattle.std.specs.Ordering.{nat_cmp, match_ordering}
-use Rattle.std.specs.Cmp.Lexicographic.{slice_cmp}
 use Rattle.serde_json.specs.Data.{Data, null, boolean, number, string, array, object, Items, no_items, item, Members as Fields, no_members as no_fields, member as field}
-use Rattle.claim_tree.specs.Tree.{Tree, Text, Truth, Null, ListOf, RecordOf, Elements, no_elements, element, Members, no_members, member}
+use Rattle.claim_tree.specs.Tree.{Tree, Text, Truth, Null, ListOf, RecordOf}
 use Rattle.serde_json.specs.Find.{as_object}
 use Rattle.claim_tree.specs.Plain.{plain_number}
+use Rattle.claim_tree.specs.Parts.{Part, Named, elements_of, members_of, put_member}
 use Rattle.sdjwt_view.specs.Disclosures.{Utf8, is_among, Disclosed, found}
 use Rattle.sdjwt_view.specs.Places.{sd, placeholder, is_placeholder, own_digests}
-
--- ---- lists and records from their parts
-
--- an element, with its mark
-abbrev pub Part : Type 0
-Part = Bool × Tree
-
--- a member, with its name and mark
-abbrev pub Named : Type 0
-Named = Utf8 × Bool × Tree
-
-abbrev pub elements_of : List Part → Elements
-elements_of [] = no_elements
-elements_of (e ∷ es) = element e.0 e.1 (elements_of es)
-
-abbrev pub members_of : List Named → Members
-members_of [] = no_members
-members_of (m ∷ ms) = member m.0 m.1 m.2 (members_of ms)
-
--- the members with one more, in its place by the bytes of its name; a name that is there already stays as it is
-abbrev pub put_member : Named → List Named → List Named
-put_member m [] = m ∷ []
-put_member m (l ∷ ls) = match_ordering (slice_cmp nat_cmp m.0 l.0) (m ∷ l ∷ ls) (l ∷ ls) (l ∷ put_member m ls)
 
 -- ---- what a list spells
 

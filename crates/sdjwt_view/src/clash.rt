@@ -9,7 +9,7 @@ ghost use Rattle.sdjwt_view.specs.Places.{own_digests, texts_in, disclosed_names
 
 use crate::disclosures::Disclosures;
 use crate::distinct::are_distinct;
-use crate::places::{entry, own_digests};
+use crate::places::{entry, own_digests, placeholder};
 use serde_json::{Map, Value};
 use std::alloc::{AllocError, Global};
 
@@ -60,7 +60,7 @@ fn has_plain(names: &[&str], object: &Map<String, Value>) -> bool
     false
 }
 
-/// Whether some object within the value gets a name that it has.
+/// Whether some object within the value, other than a placeholder, gets a name that it has.
 #[cycle(clash)]
 pub fn has_clash(
     alloc: Global,
@@ -92,7 +92,7 @@ fn have_clash(
         (λ b. b ≡ have_clash (all_said disclosures.now) (items_view list.now.items)) }
 {
     for item in list {
-        if has_clash(alloc, disclosures, item)? {
+        if placeholder(item).is_none() && has_clash(alloc, disclosures, item)? {
             return Ok(true);
         }
     }
@@ -108,8 +108,8 @@ fn holds_clash(
     ensures { IfOk result
         (λ b. b ≡ holds_clash (all_said disclosures.now) (members_view object.now.entries)) }
 {
-    for (_, value) in object {
-        if has_clash(alloc, disclosures, value)? {
+    for (name, value) in object {
+        if name.as_str() != "_sd" && has_clash(alloc, disclosures, value)? {
             return Ok(true);
         }
     }

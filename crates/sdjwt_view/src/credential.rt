@@ -1,15 +1,14 @@
 // A credential as an SD-JWT.
 ghost use Rattle.std.specs.Prelude.{◌≡◌, true};
 ghost use Rattle.claim_tree.specs.Tree.{is_claim};
-ghost use Rattle.sdjwt_view.specs.Nodes.{tree_of};
+ghost use Rattle.claim_tree.specs.Owned.{tree_of};
 
 use crate::error::{Error, envelope_error};
 use crate::front::split;
-use crate::node::Node;
 use crate::reader::read_inner;
 use crate::view::SdNode;
 use base_forms::HashName;
-use claim_tree::{Facts, Format, KeyName};
+use claim_tree::{Facts, Format, KeyName, OwnedTree};
 use jws_envelope::Jws;
 use std::alloc::Global;
 
@@ -19,7 +18,7 @@ pub struct SdCredential<'t> {
     pub(crate) text: &'t str,
     pub(crate) jws: Jws<'t>,
     pub(crate) hash: HashName,
-    pub(crate) root: Node,
+    pub(crate) root: OwnedTree,
     pub(crate) kind: String,
     pub(crate) issuer: KeyName,
     pub(crate) holder: Option<KeyName>,
@@ -41,9 +40,8 @@ impl<'t> SdCredential<'t> {
     ///
     /// `Envelope` with the rule that the issuer's JWS breaks, where the text ends in `~`; else `Refused` with the first of
     /// the rules that the text breaks: 1 it does not end in `~`; 3 the type of the JWS is not that of an SD-JWT VC; 4 an
-    /// unknown hash; 5 more than 1,024 disclosures; 6 to 8 forms of disclosures, digests and placeholders; 18 a
-    /// disclosure that does not lie directly under the payload; 9 to 13 places and names; 14 more than 64 levels;
-    /// 15 to 17 type, dates and holder. And want of memory.
+    /// unknown hash; 5 more than 1,024 disclosures; 6 to 8 forms of disclosures, digests and placeholders; 9 to 13 places
+    /// and names; 14 more than 64 levels; 15 to 17 type, dates and holder. And want of memory.
     pub fn read(alloc: Global, text: &'t str) -> Result<SdCredential<'t>, Error>
         ensures sound { IfOk result (λ _. refusal_of text.now ≡ None) }
         ensures read { IfOk result (λ c. credential_in text.now ≡ Some (meaning c)) }
@@ -61,7 +59,7 @@ impl<'t> SdCredential<'t> {
 
     /// The root of its claim tree: a record in which each disclosure stands in its place, held.
     pub fn root<'a>(&'a self) -> SdNode<'a>
-        ensures { tree_of result.node.now ≡ (meaning self.now).tree }
+        ensures { tree_of result.node.root.now ≡ (meaning self.now).tree }
     {
         SdNode::new(&self.root)
     }

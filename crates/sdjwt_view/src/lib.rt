@@ -10,6 +10,7 @@ mod error;
 mod facts;
 mod floats;
 mod front;
+mod laws;
 mod marks;
 mod node;
 mod places;
@@ -21,7 +22,10 @@ mod view;
 
 pub use credential::SdCredential;
 pub use error::{Error, NoMemory};
+pub use laws::read_is_relation;
 pub use view::SdNode;
 
+#[cfg(test)]
+mod place_tests;
 #[cfg(test)]
 mod tests;

@@ -2,7 +2,7 @@
 ghost use Rattle.std.specs.Prelude.{◌≡◌, map, Some, None};
 ghost use Rattle.std.specs.List.{list_any, list_all};
 ghost use Rattle.serde_json.specs.View.{view, items_view, members_view};
-ghost use Rattle.sdjwt_view.specs.Places.{is_list_of_texts, is_sound, are_sound, has_sound, has_mark, have_mark, holds_mark, holds_inner_mark, has_inner_mark};
+ghost use Rattle.sdjwt_view.specs.Places.{is_list_of_texts, is_sound, are_sound, has_sound};
 ghost use Rattle.sdjwt_view.specs.Placing.{is_mark_name, names_mark, marks_rule};
 ghost use Rattle.sdjwt_view.specs.Said.{said};
 
@@ -19,8 +19,6 @@ pub fn marks_rule(payload: &Value, disclosures: &[Disclosure]) -> Option<u8>
         Some(7)
     } else if !(is_sound(payload) && are_values_sound(disclosures)) {
         Some(8)
-    } else if has_inner_mark(payload) || any_value_has_mark(disclosures) {
-        Some(18)
     } else {
         None
     }
@@ -61,73 +59,6 @@ fn are_values_sound(disclosures: &[Disclosure]) -> bool
         }
     }
     true
-}
-
-fn any_value_has_mark(disclosures: &[Disclosure]) -> bool
-    ensures { result ≡ list_any (λ l. has_mark l.value) (map said disclosures.now) }
-{
-    for disclosure in disclosures {
-        if has_mark(disclosure.value()) {
-            return true;
-        }
-    }
-    false
-}
-
-// Whether the name stands anywhere but as the value's own `_sd`.
-fn has_inner_mark(payload: &Value) -> bool
-    ensures { result ≡ has_inner_mark (view payload.now) }
-{
-    match payload.as_object() {
-        Some(object) => holds_inner_mark(object),
-        None => false,
-    }
-}
-
-fn holds_inner_mark(object: &Map<String, Value>) -> bool
-    ensures { result ≡ holds_inner_mark (members_view object.now.entries) }
-{
-    for (name, value) in object {
-        if name.as_str() != "_sd" && (name.as_str() == "..." || has_mark(value)) {
-            return true;
-        }
-    }
-    false
-}
-
-#[cycle(mark)]
-fn has_mark(value: &Value) -> bool
-    ensures { result ≡ has_mark (view value.now) }
-{
-    match value {
-        Value::Array(list) => have_mark(list),
-        Value::Object(object) => holds_mark(object),
-        _ => false,
-    }
-}
-
-#[cycle(mark)]
-fn have_mark(list: &Vec<Value>) -> bool
-    ensures { result ≡ have_mark (items_view list.now.items) }
-{
-    for item in list {
-        if has_mark(item) {
-            return true;
-        }
-    }
-    false
-}
-
-#[cycle(mark)]
-fn holds_mark(object: &Map<String, Value>) -> bool
-    ensures { result ≡ holds_mark (members_view object.now.entries) }
-{
-    for (name, value) in object {
-        if name.as_str() == "_sd" || name.as_str() == "..." || has_mark(value) {
-            return true;
-        }
-    }
-    false
 }
 
 fn is_list_of_texts(value: &Value) -> bool

@@ -7,7 +7,7 @@ ghost use Rattle.std.specs.Cmp.Lexicographic.{slice_cmp};
 ghost use Rattle.serde_json.specs.View.{view};
 ghost use Rattle.sdjwt_view.specs.Disclosures.{is_among, differ};
 ghost use Rattle.sdjwt_view.specs.Held.{all_said, place_of};
-ghost use Rattle.sdjwt_view.specs.Nodes.{named_of};
+ghost use Rattle.claim_tree.specs.Owned.{named_of};
 ghost use Rattle.sdjwt_view.specs.Places.{all_places, values_places, digest_at, are_reached, has_clash};
 ghost use Rattle.sdjwt_view.specs.Placed.{IsPlaced, IsOwnPlaced};
 ghost use Rattle.sdjwt_view.specs.Placing.{reserved, top_names, any_clash, double_rule, names_rule};
@@ -19,10 +19,10 @@ use crate::disclosure::Disclosure;
 use crate::disclosures::Disclosures;
 use crate::distinct::{are_distinct, set_of};
 use crate::marks::marks_rule;
-use crate::node::Member;
 use crate::places::{Place, gather};
 use crate::reach::{add_digests, has_mismatch, reach};
 use crate::spell::spell_members;
+use claim_tree::OwnedMember;
 use serde_json::Value;
 use std::alloc::{AllocError, Global};
 use std::collections::BTreeMap;
@@ -32,7 +32,7 @@ const INNER_LEVELS: usize = 63;
 /// The members of a credential's claim tree, or the first rule on places that is broken.
 #[derive(Drop)]
 pub enum Placed {
-    Tree(Vec<Member>),
+    Tree(Vec<OwnedMember>),
     Broken(u8),
 }
 
@@ -230,7 +230,7 @@ fn spell_payload(
     alloc: Global,
     payload: &Value,
     disclosures: &Disclosures,
-) -> Result<Option<Vec<Member>>, AllocError>
+) -> Result<Option<Vec<OwnedMember>>, AllocError>
     ensures { IfOk result (λ o. option_map (λ v. map named_of v.items) o ≡ spelled_payload (all_said disclosures.now) (view payload.now)) }
 {
     match payload.as_object() {

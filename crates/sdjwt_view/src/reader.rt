@@ -5,20 +5,20 @@ ghost use Rattle.claim_tree.specs.Tree.{RecordOf, is_claim};
 ghost use Rattle.jws_envelope.specs.Jws.{envelope};
 ghost use Rattle.sdjwt_view.specs.Credential.{meaning};
 ghost use Rattle.sdjwt_view.specs.Facts.{facts_rule};
-ghost use Rattle.sdjwt_view.specs.Nodes.{named_of};
+ghost use Rattle.claim_tree.specs.Owned.{named_of};
 ghost use Rattle.sdjwt_view.specs.Reading.{inner_rule, later_rule, credential_of, credential_with, members_with};
 ghost use Rattle.sdjwt_view.specs.Refusal.{IsInnerRefusal};
 ghost use Rattle.sdjwt_view.specs.Said.{said};
-ghost use Rattle.sdjwt_view.specs.Spelling.{members_of};
+ghost use Rattle.claim_tree.specs.Parts.{members_of};
 
 use crate::credential::SdCredential;
 use crate::disclosure::Disclosure;
 use crate::error::Error;
 use crate::facts::{facts_rule, first_of, holder_of, kind_of, past_of};
 use crate::front::{Listed, read_list};
-use crate::node::{Member, Node};
 use crate::placing::{Placed, place};
 use base_forms::HashName;
+use claim_tree::{OwnedMember, OwnedTree};
 use jws_envelope::Jws;
 use std::alloc::Global;
 
@@ -67,7 +67,7 @@ fn read_facts<'t>(
     text: &'t str,
     jws: Jws<'t>,
     hash: HashName,
-    members: Vec<Member>,
+    members: Vec<OwnedMember>,
 ) -> Result<SdCredential<'t>, Error>
     requires { is_claim (RecordOf (members_of (map named_of members.items))) ≡ true }
     ensures sound { IfOk result (λ _. facts_rule (envelope jws.entry).payload ≡ None) }
@@ -89,7 +89,7 @@ fn read_facts<'t>(
         text,
         jws,
         hash,
-        root: Node::Record(members),
+        root: OwnedTree::Record(members),
         kind,
         issuer,
         holder,

@@ -1,22 +1,23 @@
 // The claim that a value spells, with each disclosure in its place.
-ghost use Rattle.std.specs.Prelude.{◌≡◌, ◌≤◌, ◌∷◌, ◌++◌, [], Bool, IfOk, IfSome, OnOk, Some, None, false, option_map, map, length, take, drop, if◌then◌else◌};
-ghost use Rattle.std.specs.Option.{option_map_or};
-ghost use Rattle.claim_tree.specs.Tree.{Tree};
+ghost use Rattle.std.specs.Prelude.{◌≡◌, ◌∷◌, [], IfOk, IfSome, Some, None, true, false, option_map, map, if◌then◌else◌};
+ghost use Rattle.claim_tree.specs.Tree.{ascend};
 ghost use Rattle.serde_json.specs.View.{view, items_view, members_view, number_view};
 ghost use Rattle.claim_tree.specs.Plain.{plain_number};
 ghost use Rattle.sdjwt_view.specs.Disclosures.{is_among, found};
 ghost use Rattle.sdjwt_view.specs.Held.{all_said};
 ghost use Rattle.sdjwt_view.specs.Said.{said};
-ghost use Rattle.sdjwt_view.specs.Nodes.{tree_of, part_of, named_of, parts_of};
+ghost use Rattle.claim_tree.specs.Owned.{tree_of, part_of, named_of};
+ghost use Rattle.claim_tree.specs.Search.{names_of};
+ghost use Rattle.sdjwt_view.specs.Nodes.{parts_of};
 ghost use Rattle.sdjwt_view.specs.Places.{own_digests, texts_in};
-ghost use Rattle.sdjwt_view.specs.Spelling.{put_member, left_out, spelled, spelled_list, spelled_record, spelled_element, spelled_members, plain_members, with_disclosure, with_disclosures};
+ghost use Rattle.sdjwt_view.specs.Spelling.{left_out, spelled, spelled_list, spelled_record, spelled_element, spelled_members, plain_members, with_disclosure, with_disclosures};
 
 use crate::disclosures::Disclosures;
-use crate::node::{Element, Member, Node, Spelled};
+use crate::node::Spelled;
 use crate::places::{has_placeholder, own_digests, placeholder};
+use claim_tree::{OwnedElement, OwnedMember, OwnedTree, put_member};
 use serde_json::{Map, Number, Value};
 use std::alloc::{AllocError, Global};
-use std::cmp::Ordering;
 
 /// None where the value has more than so many lists and records inside one Other.
 #[cycle(spell)]
@@ -25,15 +26,15 @@ pub fn spell(
     levels: usize,
     disclosures: &Disclosures,
     value: &Value,
-) -> Result<Option<Node>, AllocError>
+) -> Result<Option<OwnedTree>, AllocError>
     ensures { IfOk result
         (λ o. option_map tree_of o ≡ spelled levels (all_said disclosures.now) (view value.now)) }
 {
     match value {
-        Value::Null => Ok(Some(Node::Null)),
-        Value::Bool(truth) => Ok(Some(Node::Truth(*truth))),
-        Value::Number(number) => Ok(Some(number_node(number))),
-        Value::String(text) => Ok(Some(Node::Text(text.clone()?))),
+        Value::Null => Ok(Some(OwnedTree::Null)),
+        Value::Bool(truth) => Ok(Some(OwnedTree::Truth(*truth))),
+        Value::Number(number) => Ok(Some(number_tree(number))),
+        Value::String(text) => Ok(Some(OwnedTree::Text(text.clone()?))),
         Value::Array(list) => {
             if levels == 0 {
                 return Ok(None);
@@ -55,7 +56,7 @@ fn spell_list(
     levels: usize,
     disclosures: &Disclosures,
     list: &Vec<Value>,
-) -> Result<Option<Node>, AllocError>
+) -> Result<Option<OwnedTree>, AllocError>
     ensures { IfOk result
         (λ o. option_map tree_of o ≡ spelled_list (spelled levels (all_said disclosures.now)) (all_said disclosures.now) (items_view list.now.items)) }
 {
@@ -67,7 +68,7 @@ fn spell_list(
             Spelled::TooDeep => return Ok(None),
         }
     }
-    Ok(Some(Node::List(has_placeholder(list), elements)))
+    Ok(Some(OwnedTree::List(has_placeholder(list), elements)))
 }
 
 #[cycle(spell)]
@@ -81,8 +82,8 @@ fn spell_element(
         (λ s. parts_of s ≡ spelled_element (spelled levels (all_said disclosures.now)) (all_said disclosures.now) (view item.now)) }
 {
     let Some(digest) = placeholder(item) else {
-        let node = spell(alloc, levels, disclosures, item)?;
-        return Ok(part(false, node));
+        let tree = spell(alloc, levels, disclosures, item)?;
+        return Ok(part(false, tree));
     };
     let Some(disclosure) = disclosures.find(digest) else {
         return Ok(Spelled::Nothing);
@@ -90,8 +91,8 @@ fn spell_element(
     if disclosure.name().is_some() {
         return Ok(Spelled::Nothing);
     }
-    let node = spell(alloc, levels, disclosures, disclosure.value())?;
-    Ok(part(true, node))
+    let tree = spell(alloc, levels, disclosures, disclosure.value())?;
+    Ok(part(true, tree))
 }
 
 #[cycle(spell)]
@@ -100,12 +101,12 @@ fn spell_record(
     levels: usize,
     disclosures: &Disclosures,
     object: &Map<String, Value>,
-) -> Result<Option<Node>, AllocError>
+) -> Result<Option<OwnedTree>, AllocError>
     ensures { IfOk result
         (λ o. option_map tree_of o ≡ spelled_record false (spelled levels (all_said disclosures.now)) (all_said disclosures.now) (members_view object.now.entries)) }
 {
     match spell_members(alloc, levels, disclosures, false, object)? {
-        Some(members) => Ok(Some(Node::Record(members))),
+        Some(members) => Ok(Some(OwnedTree::Record(members))),
         None => Ok(None),
     }
 }
@@ -117,7 +118,7 @@ pub fn spell_members(
     disclosures: &Disclosures,
     is_payload: bool,
     object: &Map<String, Value>,
-) -> Result<Option<Vec<Member>>, AllocError>
+) -> Result<Option<Vec<OwnedMember>>, AllocError>
     ensures { IfOk result
         (λ o. option_map (λ v. map named_of v.items) o ≡ spelled_members is_payload (spelled levels (all_said disclosures.now)) (all_said disclosures.now) (members_view object.now.entries)) }
 {
@@ -137,20 +138,21 @@ fn spell_plain(
     disclosures: &Disclosures,
     is_payload: bool,
     object: &Map<String, Value>,
-) -> Result<Option<Vec<Member>>, AllocError>
-    ensures { IfOk result
+) -> Result<Option<Vec<OwnedMember>>, AllocError>
+    ensures order { IfOk result (λ o. IfSome o (λ v. ascend (names_of (map named_of v.items)) ≡ true)) }
+    ensures members { IfOk result
         (λ o. option_map (λ v. map named_of v.items) o ≡ plain_members is_payload (spelled levels (all_said disclosures.now)) (members_view object.now.entries)) }
 {
     let mut members = Vec::new(alloc);
     for (name, value) in object {
         if !is_left_out(is_payload, name.as_str()) {
-            let Some(node) = spell(alloc, levels, disclosures, value)? else {
+            let Some(tree) = spell(alloc, levels, disclosures, value)? else {
                 return Ok(None);
             };
-            members.push(Member {
+            members.push(OwnedMember {
                 name: name.clone()?,
                 held: false,
-                node,
+                tree,
             })?;
         }
     }
@@ -163,8 +165,9 @@ fn spell_disclosed(
     levels: usize,
     disclosures: &Disclosures,
     digests: &Vec<Value>,
-    plain: Vec<Member>,
-) -> Result<Option<Vec<Member>>, AllocError>
+    plain: Vec<OwnedMember>,
+) -> Result<Option<Vec<OwnedMember>>, AllocError>
+    requires { ascend (names_of (map named_of plain.items)) ≡ true }
     ensures { IfOk result
         (λ o. option_map (λ v. map named_of v.items) o ≡ with_disclosures (spelled levels (all_said disclosures.now)) (all_said disclosures.now) (texts_in (items_view digests.now.items)) (map named_of plain.items)) }
 {
@@ -185,9 +188,11 @@ fn put_disclosed(
     levels: usize,
     disclosures: &Disclosures,
     digest: &str,
-    members: &mut Vec<Member>,
+    members: &mut Vec<OwnedMember>,
 ) -> Result<bool, AllocError>
-    ensures { IfOk result
+    requires { ascend (names_of (map named_of members.old.items)) ≡ true }
+    ensures order { ascend (names_of (map named_of members.new.items)) ≡ true }
+    ensures put { IfOk result
         (λ done. with_disclosure (spelled levels (all_said disclosures.now)) (found digest.now (all_said disclosures.now)) (map named_of members.old.items) ≡ (if done then Some (map named_of members.new.items) else None)) }
 {
     let Some(disclosure) = disclosures.find(digest) else {
@@ -196,63 +201,36 @@ fn put_disclosed(
     let Some(name) = disclosure.name() else {
         return Ok(true);
     };
-    let Some(node) = spell(alloc, levels, disclosures, disclosure.value())? else {
+    let Some(tree) = spell(alloc, levels, disclosures, disclosure.value())? else {
         return Ok(false);
     };
     let name = String::from_str(alloc, name)?;
     put_member(
         members,
-        Member {
+        OwnedMember {
             name,
             held: true,
-            node,
+            tree,
         },
     )?;
     Ok(true)
 }
 
-// In its place by its name; a name that is there already stays as it is.
-fn put_member(members: &mut Vec<Member>, member: Member) -> Result<(), AllocError>
-    ensures { OnOk result
-        (map named_of members.new.items ≡ put_member (named_of member) (map named_of members.old.items)) }
+fn part(held: bool, tree: Option<OwnedTree>) -> Spelled
+    ensures { parts_of result ≡ option_map (λ t. (held, t) ∷ []) (option_map tree_of tree) }
 {
-    if let Some(place) = place_for(members, member.name.as_str()) {
-        members.insert(place, member)?;
-    }
-    Ok(())
-}
-
-// Before the first member whose name is greater, or nowhere where the name is there.
-fn place_for(members: &[Member], name: &str) -> Option<usize>
-    ensures within { IfSome result (λ place. place ≤ length members.now) }
-    ensures place { (held : Bool) (tree : Tree) → put_member (name.now, held, tree) (map named_of members.now)
-        ≡ option_map_or (λ place. map named_of (take place members.now) ++ (name.now, held, tree) ∷ map named_of (drop place members.now)) result (map named_of members.now) }
-{
-    for (place, member) in members.iter().enumerate() {
-        match name.cmp(member.name.as_str()) {
-            Ordering::Less => return Some(place),
-            Ordering::Equal => return None,
-            Ordering::Greater => {}
-        }
-    }
-    Some(members.len())
-}
-
-fn part(held: bool, node: Option<Node>) -> Spelled
-    ensures { parts_of result ≡ option_map (λ t. (held, t) ∷ []) (option_map tree_of node) }
-{
-    match node {
-        Some(node) => Spelled::Found(Element { held, node }),
+    match tree {
+        Some(tree) => Spelled::Found(OwnedElement { held, tree }),
         None => Spelled::TooDeep,
     }
 }
 
-fn number_node(number: &Number) -> Node
+fn number_tree(number: &Number) -> OwnedTree
     ensures { tree_of result ≡ plain_number (number_view number.now) }
 {
     match number.as_i128() {
-        Some(whole) => Node::Whole(whole),
-        None => Node::Other,
+        Some(whole) => OwnedTree::Whole(whole),
+        None => OwnedTree::Other,
     }
 }
 

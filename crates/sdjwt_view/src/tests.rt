@@ -47,14 +47,6 @@ fn refusals(rt: HostRuntime) {
             Error::Refused(8),
         ),
         (
-            "eyJhbGciOiJFUzI1NiIsInR5cCI6ImRjK3NkLWp3dCJ9.eyJhIjp7Il9zZCI6W119LCJ2Y3QiOiJ0In0.~",
-            Error::Refused(18),
-        ),
-        (
-            "eyJhbGciOiJFUzI1NiIsInR5cCI6ImRjK3NkLWp3dCJ9.eyJfc2QiOlsiZWFsMDd0SXg3RU9PRWlIV1d6SnZqOW53blprbVgtR2F3TGhBZnpMd3d5SSJdLCJ2Y3QiOiJ0In0.~WyJzIiwgImEiLCB7Il9zZCI6IFsieCJdfV0~",
-            Error::Refused(18),
-        ),
-        (
             "eyJhbGciOiJFUzI1NiIsInR5cCI6ImRjK3NkLWp3dCJ9.eyJfc2QiOlsiZCIsImQiXSwidmN0IjoidCJ9.~",
             Error::Refused(9),
         ),

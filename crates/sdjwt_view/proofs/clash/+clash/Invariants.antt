@@ -7,5 +7,5 @@ use Rattle.sdjwt_view.proofs.clash.+clash.Given as goal
 abbrev pub invariant-have_clash-loop-item : goal.invariant-have_clash-loop-item
 invariant-have_clash-loop-item l = have_clash (all_said l.disclosures) (items_view (drop l.item-index l.item-items)) ≡ have_clash (all_said l.disclosures) (items_view l.item-items)
 
-abbrev pub invariant-holds_clash-loop-value : goal.invariant-holds_clash-loop-value
-invariant-holds_clash-loop-value l = holds_clash (all_said l.disclosures) (members_view l.value-iterator) ≡ holds_clash (all_said l.disclosures) (members_view l.object.entries)
+abbrev pub invariant-holds_clash-loop-name : goal.invariant-holds_clash-loop-name
+invariant-holds_clash-loop-name l = holds_clash (all_said l.disclosures) (members_view l.name-iterator) ≡ holds_clash (all_said l.disclosures) (members_view l.object.entries)

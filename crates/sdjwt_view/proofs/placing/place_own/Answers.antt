@@ -1,7 +1,7 @@
 use Rattle.std.proofs.Common.{◌≡◌, None, Some, option_map, map, sym, ap, ◌∙◌}
 use Rattle.serde_json.specs.View.{view}
 use Rattle.sdjwt_view.specs.Held.{all_said}
-use Rattle.sdjwt_view.specs.Nodes.{named_of}
+use Rattle.claim_tree.specs.Owned.{named_of}
 use Rattle.sdjwt_view.specs.Placing.{names_rule}
 use Rattle.sdjwt_view.specs.Spelling.{spelled_payload}
 use Rattle.sdjwt_view.proofs.PlacingSteps.{first_here, first_past, not_reached, all_reached, too_deep, deep_enough, none_if}

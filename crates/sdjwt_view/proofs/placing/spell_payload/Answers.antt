@@ -1,7 +1,7 @@
 use Rattle.std.proofs.Common.{◌≡◌, true, option_map, option_and_then, map, ap, subst}
 use Rattle.std.specs.Prelude.{IfOk}
 use Rattle.sdjwt_view.specs.Held.{all_said}
-use Rattle.sdjwt_view.specs.Nodes.{named_of}
+use Rattle.claim_tree.specs.Owned.{named_of}
 use Rattle.sdjwt_view.specs.Spelling.{spelled, spelled_members, spelled_payload}
 use Rattle.sdjwt_view.proofs.placing.spell_payload.Goals as goal
 

@@ -2,7 +2,7 @@ use Rattle.std.proofs.Common.{map, ap, ◌∙◌, subst}
 use Rattle.serde_json.specs.View.{view}
 use Rattle.claim_tree.specs.Tree.{is_claim}
 use Rattle.claim_tree.specs.Plain.{plain}
-use Rattle.sdjwt_view.specs.Nodes.{named_of}
+use Rattle.claim_tree.specs.Owned.{named_of}
 use Rattle.sdjwt_view.specs.Placed.{IsPlaced}
 use Rattle.sdjwt_view.specs.Said.{said}
 use Rattle.sdjwt_view.proofs.ReadSteps.{spelled_claim}

@@ -1,7 +1,9 @@
-use Rattle.std.proofs.Common.{◌≡◌, ◌+◌, ◌*◌, map, drop}
+use Rattle.std.proofs.Common.{◌≡◌, true, ◌+◌, ◌*◌, map, drop}
 use Rattle.serde_json.specs.View.{items_view, members_view}
 use Rattle.sdjwt_view.specs.Held.{all_said}
-use Rattle.sdjwt_view.specs.Nodes.{part_of, named_of}
+use Rattle.claim_tree.specs.Tree.{ascend}
+use Rattle.claim_tree.specs.Search.{names_of}
+use Rattle.claim_tree.specs.Owned.{part_of, named_of}
 use Rattle.sdjwt_view.specs.Places.{texts_in}
 use Rattle.sdjwt_view.specs.Prefixed.{prefixed}
 use Rattle.sdjwt_view.specs.Spelling.{spelled, spelled_elements, plain_members, with_disclosures}
@@ -39,5 +41,6 @@ invariant-spell_plain-loop-name l = prefixed (map named_of l.members.items) (pla
 
 abbrev pub invariant-spell_disclosed-loop-item : goal.invariant-spell_disclosed-loop-item
 invariant-spell_disclosed-loop-item l =
-    with_disclosures (spelled l.levels (all_said l.disclosures)) (all_said l.disclosures) (texts_in (items_view (drop l.item-index l.item-items))) (map named_of l.members.items)
-    ≡ with_disclosures (spelled l.levels (all_said l.disclosures)) (all_said l.disclosures) (texts_in (items_view l.item-items)) (map named_of l.initial.members.items)
+    (ascend (names_of (map named_of l.members.items)) ≡ true)
+    × (with_disclosures (spelled l.levels (all_said l.disclosures)) (all_said l.disclosures) (texts_in (items_view (drop l.item-index l.item-items))) (map named_of l.members.items)
+    ≡ with_disclosures (spelled l.levels (all_said l.disclosures)) (all_said l.disclosures) (texts_in (items_view l.item-items)) (map named_of l.initial.members.items))
