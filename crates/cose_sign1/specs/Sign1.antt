@@ -4,8 +4,8 @@ use Rattle.std.specs.Prelude.{ℕ, ℤ, pos, ◌==◌, not, Bool, true, false, �
 use Rattle.std.specs.List.{slice_get}
 use Rattle.std.specs.Option.{option_map_or, option_or}
 use Rattle.std.specs.Ordering.{int_eq}
-use Rattle.sha2.specs.Sha256.{sha256}
 use Rattle.base_forms.specs.Base16.{hex_of}
+use Rattle.base_forms.specs.Leaf.{leaf_name}
 use Rattle.rule_tables.specs.Rules.{rule, first}
 use Rattle.cbor_core.specs.declared.kind.Kind.{Kind}
 use Rattle.cbor_core.specs.declared.kind.Kind.TheVariants as kind
@@ -135,15 +135,12 @@ key_in headers = option_and_then bytes_of (find_label (pos 4) headers)
 abbrev pub in_either : (Headers → Option (List ℕ)) → Message → Option (List ℕ)
 in_either look m = option_or (look m.unprotected) (look (protected_of m.protected))
 
-abbrev pub named_leaf : List ℕ → List ℕ
-named_leaf leaf = codes "x5:" ++ hex_of (sha256 leaf)
-
 abbrev pub named_key : List ℕ → List ℕ
 named_key key = codes "mkid:" ++ hex_of key
 
 -- the leaf certificate where there is one, and else the key's identifier
 abbrev pub issuer_of : Message → List ℕ
-issuer_of m = option_map_or named_leaf (in_either leaf_in m) (named_key (unwrap_or (in_either key_in m) []))
+issuer_of m = option_map_or leaf_name (in_either leaf_in m) (named_key (unwrap_or (in_either key_in m) []))
 
 -- ---- what is signed (RFC 9052, section 4.4)
 

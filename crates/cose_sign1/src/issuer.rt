@@ -2,12 +2,12 @@
 ghost use Rattle.std.specs.Prelude.{◌≡◌, IfOk, option_map, string_bytes};
 ghost use Rattle.cbor_core.specs.Seen.{span_of};
 ghost use Rattle.cose_sign1.specs.Parts.{headers_of};
-ghost use Rattle.cose_sign1.specs.Sign1.{certificate_in, leaf_in, key_in, in_either, issuer_of, named_leaf, named_key};
+ghost use Rattle.cose_sign1.specs.Sign1.{certificate_in, leaf_in, key_in, in_either, issuer_of, named_key};
 
 use crate::error::NoMemory;
 use crate::headers::find_label;
 use crate::sign1::Sign1;
-use base_forms::{HashName, to_hex};
+use base_forms::{leaf_name, to_hex};
 use cbor_core::Item;
 use claim_tree::KeyName;
 use std::alloc::Global;
@@ -71,13 +71,6 @@ fn key_in<'a>(headers: Option<Item<'a>>) -> Option<&'a [u8]>
     ensures { option_map (λ b. b.now) result ≡ key_in (headers_of headers.entry) }
 {
     find_label(headers?, KEY_IDENTIFIER)?.bytes()
-}
-
-fn leaf_name(alloc: Global, leaf: &[u8]) -> Result<String, NoMemory>
-    ensures { IfOk result (λ text. string_bytes text ≡ named_leaf leaf.now) }
-{
-    let hex = to_hex(alloc, HashName::Sha256.digest(leaf).bytes())?;
-    Ok(format!(in alloc; "x5:{hex}")?)
 }
 
 fn key_name(alloc: Global, key: &[u8]) -> Result<String, NoMemory>

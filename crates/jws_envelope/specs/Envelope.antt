@@ -6,13 +6,12 @@ use Rattle.std.specs.Option.{option_map_or}
 use Rattle.std.specs.Str.{bytes_eq}
 use Rattle.base64.specs.Engines.{standard}
 use Rattle.base64.specs.GeneralPurpose.{decoded_of}
-use Rattle.sha2.specs.Sha256.{sha256}
 use Rattle.serde_json.specs.Data.{Data, null, string, array, no_items, item}
 use Rattle.serde_json.specs.Find.{get, as_str}
 use Rattle.serde_json.specs.Written.{compact_text}
 use Rattle.rule_tables.specs.Rules.{rule, first, unless_broken}
 use Rattle.base_forms.specs.Url64.{url64_bytes}
-use Rattle.base_forms.specs.Base16.{hex_of}
+use Rattle.base_forms.specs.Leaf.{leaf_name}
 use Rattle.json_forms.specs.Look.{text_at, elements_at, is_object}
 use Rattle.json_forms.specs.Text.{json_of}
 use Rattle.jws_envelope.specs.Compact.{Text, dot_parts, part}
@@ -85,13 +84,10 @@ leaf_text header = option_and_then as_str (slice_get (elements_at (codes "x5c") 
 abbrev pub leaf_of : Data → Option (List ℕ)
 leaf_of header = option_and_then (decoded_of standard) (leaf_text header)
 
-abbrev pub named_leaf : List ℕ → Text
-named_leaf leaf = codes "x5:" ++ hex_of (sha256 leaf)
-
 abbrev pub named_key : Text → Text → Text
 named_key issuer key = codes "kid:" ++ compact_text (array (item (string issuer) (item (string key) no_items)))
 
 -- the leaf certificate where there is one, and else the issuer and its key's identifier
 abbrev pub issuer_of : Envelope → Text
-issuer_of e = option_map_or named_leaf (leaf_of e.header)
+issuer_of e = option_map_or leaf_name (leaf_of e.header)
     (named_key (unwrap_or (text_at (codes "iss") e.payload) []) (unwrap_or (text_at (codes "kid") e.header) []))
