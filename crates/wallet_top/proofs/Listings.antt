@@ -67,4 +67,4 @@ pub stopped_step : (files : Files) (es : List Entry) (i : ℕ) (e : Entry)
 stopped_step files es i e h is passed invariant before after stop stops =
     invariant before after stop
     (subst (λ ds. StopsWithin before after (credential_steps files (map meant ds)) stop) (sym (rest_is es i e h is))
-        (stops_within_past before after (file (meant e).file) (within_limit credential_limit (meant e).file (files (meant e).file)) (credential_steps files (map meant (drop (i + 1) es))) stop passed stops))
+    (stops_within_past before after (file (meant e).file) (within_limit credential_limit (meant e).file (files (meant e).file)) (credential_steps files (map meant (drop (i + 1) es))) stop passed stops))

@@ -19,4 +19,6 @@ mod wallet;
 pub use top::run;
 
 #[cfg(test)]
+mod list_tests;
+#[cfg(test)]
 mod tests;

@@ -63,11 +63,7 @@ pub fn only(asked: &Result<Query, u8>) -> Option<&CredentialQuery>
 }
 
 /// This answer, unless the query breaks a rule or has not one credential query.
-pub fn replied(
-    alloc: Global,
-    asked: &Result<Query, u8>,
-    answer: Reply,
-) -> Result<Reply, AllocError>
+pub fn replied(alloc: Global, asked: &Result<Query, u8>, answer: Reply) -> Result<Reply, AllocError>
     ensures { IfOk result (λ reply. outcome reply ≡ replied asked.now (outcome answer)) }
 {
     match asked {

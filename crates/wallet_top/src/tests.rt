@@ -16,7 +16,7 @@ fn query_with(alloc: Global, members: &str) -> Result<String, Fail> {
     Ok(format!(in alloc; "{{\"credentials\":[{{\"id\":\"a\",\"format\":\"f\",{members}}}]}}")?)
 }
 
-fn words(alloc: Global, texts: &[&str]) -> Result<Vec<String>, Fail> {
+pub fn words(alloc: Global, texts: &[&str]) -> Result<Vec<String>, Fail> {
     let mut words = Vec::new(alloc);
     for text in texts {
         words.push(String::from_str(alloc, text)?)?;

@@ -19,7 +19,7 @@ pub returns-in_err-entries-clause-blame : goal.returns-in_err-entries-clause-bla
 returns-in_err-entries-clause-blame g c =
     let p = err_from_is_err_and c.from_residual-in_err-entries.result c.from_residual-in_err-entries.ensures.1 in
     rw (p.1, p.2) (blames_file _ _ (MayAsk (list_credentials c.args.query.now c.args.wallet.now)) c.args.wallet.now c.in_err-entries.field-0.0 tt
-        (cause_from _ _ _ c.in_err-entries.field-0.0 (c.in_ok-value.ensures.later c.args.wallet.now) c.in_err-entries.ensures.cause))
+    (cause_from _ _ _ c.in_err-entries.field-0.0 (c.in_ok-value.ensures.later c.args.wallet.now) c.in_err-entries.ensures.cause))
 
 pub returns-in_err-listing-clause-reply : goal.returns-in_err-listing-clause-reply
 returns-in_err-listing-clause-reply g c =
@@ -31,8 +31,8 @@ returns-in_err-listing-clause-reply g c =
     let second = c.in_ok-entries.ensures.same ∙ first in
     let are_read = are_read_told query wallet (g.S.Store.files c.args.store.now) es c.in_ok-value.ensures.passed (rw first at c.in_ok-entries.ensures.passed) (rw first at c.in_ok-entries.ensures.entries) in
     rw (p.1, p.2) (listing_stops_told query wallet (g.S.Store.files c.args.store.now) (g.S.Store.faults c.args.store.now) (g.S.Store.faults c.read_wallet.new.store) (g.S.Store.faults c.list_entries.new.store) es c.in_err-listing.field-0.0
-        (λ name. omega (arith, c.in_ok-value.ensures.later name, c.in_ok-entries.ensures.later name))
-        are_read (rw (second, c.deref.ensures.value) at c.in_err-listing.ensures.stopped))
+    (λ name. omega (arith, c.in_ok-value.ensures.later name, c.in_ok-entries.ensures.later name))
+    are_read (rw (second, c.deref.ensures.value) at c.in_err-listing.ensures.stopped))
 
 pub returns-clause-reply : goal.returns-clause-reply
 returns-clause-reply g c =
@@ -45,10 +45,10 @@ returns-clause-reply g c =
     let second = c.in_ok-entries.ensures.same ∙ first in
     let are_read = are_read_told query wallet told es c.in_ok-value.ensures.passed (rw first at c.in_ok-entries.ensures.passed) (rw first at c.in_ok-entries.ensures.entries) in
     let are_listed = are_listed_told query told es (view c.in_ok-value.value) asked (string_bytes c.in_ok-listing.listing.text) c.in_ok-listing.listing.has_match
-        c.in_ok-asked.ensures
-        c.in_ok-value.ensures.value
-        (rw (second, c.deref.ensures.value) at c.in_ok-listing.ensures.passed)
-        (rw (second, c.deref.ensures.value, c.only.ensures) at c.in_ok-listing.ensures.text)
-        (rw (second, c.deref.ensures.value, c.only.ensures) at c.in_ok-listing.ensures.has_match) in
+    c.in_ok-asked.ensures
+    c.in_ok-value.ensures.value
+    (rw (second, c.deref.ensures.value) at c.in_ok-listing.ensures.passed)
+    (rw (second, c.deref.ensures.value, c.only.ensures) at c.in_ok-listing.ensures.text)
+    (rw (second, c.deref.ensures.value, c.only.ensures) at c.in_ok-listing.ensures.has_match) in
     listing_answers_told query wallet told es asked (string_bytes c.in_ok-listing.listing.text) c.in_ok-listing.listing.has_match (outcome c.in_ok-replied.field-0)
-        (c.in_ok-replied.ensures ∙ ap (replied asked) c.in_ok-listing_reply.ensures) are_read are_listed
+    (c.in_ok-replied.ensures ∙ ap (replied asked) c.in_ok-listing_reply.ensures) are_read are_listed

@@ -14,7 +14,7 @@ returns-in_err-finding-clause-blame g c =
     let p = err_from_is_err_and c.from_residual.result c.from_residual.ensures.1 in
     let name = (meant c.entry-item.result).file in
     rw (p.1, p.2) (blames_file _ _ IsFile name c.in_err-finding.field-0.0 tt
-        (cause_from _ _ _ c.in_err-finding.field-0.0 (c.loop-entry.invariant.later name) c.in_err-finding.ensures.cause))
+    (cause_from _ _ _ c.in_err-finding.field-0.0 (c.loop-entry.invariant.later name) c.in_err-finding.ensures.cause))
 
 pub loop-entry-preserved : goal.loop-entry-preserved
 loop-entry-preserved g c =
@@ -29,11 +29,11 @@ loop-entry-preserved g c =
       same = c.find.ensures.same ∙ told;
       later = λ name. omega (arith, c.loop-entry.invariant.later name, c.find.ensures.later name);
       text = both_told _ _ _ (λ files invariant found. text_step asked files es i e _ _ _ _ within c.entry-item.is found (rw c.loop-entry.invariant.number at c.in_ok-add_finding.ensures.text) invariant)
-        _ c.loop-entry.invariant.text (rw told at c.in_ok-finding.ensures.finding);
+          _ c.loop-entry.invariant.text (rw told at c.in_ok-finding.ensures.finding);
       has_match = both_told _ _ _ (λ files invariant found. match_step asked files es i e _ _ _ _ within c.entry-item.is found c.in_ok-add_finding.ensures.has_match invariant)
-        _ c.loop-entry.invariant.has_match (rw told at c.in_ok-finding.ensures.finding);
+          _ c.loop-entry.invariant.has_match (rw told at c.in_ok-finding.ensures.finding);
       passed = both_told _ _ _ (λ files invariant passed. passed_step files es i e within c.entry-item.is passed invariant)
-        _ c.loop-entry.invariant.passed (rw told at c.in_ok-finding.ensures.passed);
+          _ c.loop-entry.invariant.passed (rw told at c.in_ok-finding.ensures.passed);
       stopped = both_told _ _ _ (λ files invariant passed. stopped_step files es i e within c.entry-item.is passed invariant)
-        _ c.loop-entry.invariant.stopped (rw told at c.in_ok-finding.ensures.passed);
+          _ c.loop-entry.invariant.stopped (rw told at c.in_ok-finding.ensures.passed);
     }

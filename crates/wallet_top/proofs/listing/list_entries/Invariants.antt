@@ -15,14 +15,14 @@ invariant-loop-entry g l = record {
   same : g.S.Store.files l.store ≡ g.S.Store.files l.initial.store;
   later : (name : List ℕ) → g.S.Store.faults l.initial.store name ≤ g.S.Store.faults l.store name;
   text : IfSome (g.S.Store.files l.initial.store) (λ files.
-    string_bytes l.listing.text ++ finding_lines l.entry-index (findings (option_copied l.asked) files (map meant (drop l.entry-index l.entries)))
-    ≡ finding_lines 0 (findings (option_copied l.asked) files (map meant l.entries)));
+      string_bytes l.listing.text ++ finding_lines l.entry-index (findings (option_copied l.asked) files (map meant (drop l.entry-index l.entries)))
+      ≡ finding_lines 0 (findings (option_copied l.asked) files (map meant l.entries)));
   has_match : IfSome (g.S.Store.files l.initial.store) (λ files.
-    (l.listing.has_match || list_any is_match (findings (option_copied l.asked) files (map meant (drop l.entry-index l.entries))))
-    ≡ list_any is_match (findings (option_copied l.asked) files (map meant l.entries)));
+      (l.listing.has_match || list_any is_match (findings (option_copied l.asked) files (map meant (drop l.entry-index l.entries))))
+      ≡ list_any is_match (findings (option_copied l.asked) files (map meant l.entries)));
   passed : IfSome (g.S.Store.files l.initial.store) (λ files.
-    ArePassed (credential_steps files (map meant (drop l.entry-index l.entries))) → ArePassed (credential_steps files (map meant l.entries)));
+      ArePassed (credential_steps files (map meant (drop l.entry-index l.entries))) → ArePassed (credential_steps files (map meant l.entries)));
   stopped : IfSome (g.S.Store.files l.initial.store) (λ files. (before after : Counts) (stop : Stop)
-    → StopsWithin before after (credential_steps files (map meant (drop l.entry-index l.entries))) stop
-    → StopsWithin before after (credential_steps files (map meant l.entries)) stop);
+      → StopsWithin before after (credential_steps files (map meant (drop l.entry-index l.entries))) stop
+      → StopsWithin before after (credential_steps files (map meant l.entries)) stop);
 }

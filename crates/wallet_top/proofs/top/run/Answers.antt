@@ -35,9 +35,9 @@ counted command None before after fault stop Then is stops = tt
 counted command (Some files) before after fault stop Then is stops = λ none.
     let p = plan_of_command command files in
     absurd (none_among before after (asked p.steps) (line_of fault) none
-        (among_asked before after p.steps (line_of fault) (subst (λ s. Stops before after p s) is stops)))
+    (among_asked before after p.steps (line_of fault) (subst (λ s. Stops before after p s) is stops)))
 
 pub returns-in-Err-Failed-Read-clause-complete : goal.returns-in-Err-Failed-Read-clause-complete
 returns-in-Err-Failed-Read-clause-complete g c =
     rw (sym c.in-Some.ensures) (counted (meaning c.in-Some.command) (g.S.Store.files c.args.store.now) (counts (g.S.Store.faults c.args.store.now)) (counts (g.S.Store.faults c.perform.new.store))
-        c.in-Err-Failed-Read.field-0-0 c.in-Err-Failed-Read.field-0 _ c.in-Err-Failed-Read.field-0-is c.in-Err-Failed-Read.ensures.reply)
+    c.in-Err-Failed-Read.field-0-0 c.in-Err-Failed-Read.field-0 _ c.in-Err-Failed-Read.field-0-is c.in-Err-Failed-Read.ensures.reply)
