@@ -58,7 +58,7 @@ plain_computed Inner inner c is_payload (SpellPlain.plain {k = k} {d = d} {ms = 
 pub members_computed : (is_payload : Bool) (Inner : Way) (inner : Data → Option Tree) (ls : List Disclosed) → Computes Inner inner → (ms : Fields) (ns : List Named) (us : List Utf8) → SpellMembers is_payload Inner ls ms ns us
     → spelled_members is_payload inner ls ms ≡ Some ns
 members_computed is_payload Inner inner ls c ms ns us s =
-    ap (option_and_then (with_disclosures inner ls (own_digests ms))) (plain_computed Inner inner c is_payload s.4) ∙ held_computed Inner inner ls c s.5 s.0 ∙ ap Some (sym s.7)
+    ap (option_and_then (with_disclosures inner ls (own_digests ms))) (plain_computed Inner inner c is_payload s.spells_plain) ∙ held_computed Inner inner ls c s.spells_held s.plain ∙ ap Some (sym s.are_members)
 
 pub spells_computed : (n : ℕ) (ls : List Disclosed) → Computes (Spells n ls) (spelled n ls)
 spells_computed n ls null t us s = ap Some (sym s.0)

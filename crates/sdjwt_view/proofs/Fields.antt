@@ -141,29 +141,29 @@ pub under_parts : (F : List Place → ℕ) → ((ps qs : List Place) → F (ps +
 under_parts F more none left has no_fields one texts = omega (arith, none)
 under_parts F more none left has (field k d ms) one texts = elim (cases_Bool (bytes_eq k sd)) [
   | inl here ↦
-    let places : places_under (field k d ms) ≡ map in_object (listed d) ++ places_under ms = ap (λ b. cond b (map in_object (listed d)) (places_in d) ++ places_under ms) here in
-    let plain : plain_places left (field k d ms) ≡ plain_places left ms = ap (λ b. cond b [] (places_in d) ++ plain_places left ms) (has k here) in
-    omega (
-      arith,
-      ap F places,
-      more (map in_object (listed d)) (places_under ms),
-      ap F plain,
-      ap (λ xs. F (map in_object xs)) (own_here k d ms here),
-      ap (λ xs. F (map in_object xs)) (own_empty ms (one.0 here)),
-      under_parts F more none left has ms one.1 texts.1,
-      none,
-    )
+      let places : places_under (field k d ms) ≡ map in_object (listed d) ++ places_under ms = ap (λ b. cond b (map in_object (listed d)) (places_in d) ++ places_under ms) here in
+      let plain : plain_places left (field k d ms) ≡ plain_places left ms = ap (λ b. cond b [] (places_in d) ++ plain_places left ms) (has k here) in
+      omega (
+        arith,
+        ap F places,
+        more (map in_object (listed d)) (places_under ms),
+        ap F plain,
+        ap (λ xs. F (map in_object xs)) (own_here k d ms here),
+        ap (λ xs. F (map in_object xs)) (own_empty ms (one.0 here)),
+        under_parts F more none left has ms one.1 texts.1,
+        none,
+      )
   | inr past ↦
-    let places : places_under (field k d ms) ≡ places_in d ++ places_under ms = ap (λ b. cond b (map in_object (listed d)) (places_in d) ++ places_under ms) past in
-    omega (
-      arith,
-      ap F places,
-      more (places_in d) (places_under ms),
-      more (cond (is_among k left) [] (places_in d)) (plain_places left ms),
-      kept past,
-      ap (λ xs. F (map in_object xs)) (own_past k d ms past),
-      under_parts F more none left has ms one.1 texts.1,
-    )
+      let places : places_under (field k d ms) ≡ places_in d ++ places_under ms = ap (λ b. cond b (map in_object (listed d)) (places_in d) ++ places_under ms) past in
+      omega (
+        arith,
+        ap F places,
+        more (places_in d) (places_under ms),
+        more (cond (is_among k left) [] (places_in d)) (plain_places left ms),
+        kept past,
+        ap (λ xs. F (map in_object xs)) (own_past k d ms past),
+        under_parts F more none left has ms one.1 texts.1,
+      )
 ] where
   kept : bytes_eq k sd ≡ false → F (cond (is_among k left) [] (places_in d)) ≡ F (places_in d)
   kept past = elim (cases_Bool (is_among k left)) [

@@ -74,9 +74,9 @@ no_mismatch ls (in_list x) e = rw (e, is_mismatch) refl
 other_digest : (ls : List Disclosed) (y x : Utf8) (l : Disclosed) → found y ls ≡ None → found x ls ≡ Some l → bytes_eq y x ≡ false
 other_digest ls y x l e f = elim (cases_Bool (bytes_eq y x)) [
   | inl same ↦
-    let is : y ≡ x = same_from y x same in
-    let both : found y ls ≡ found x ls = ap (λ z. found z ls) is in
-    absurd (cc)
+      let is : y ≡ x = same_from y x same in
+      let both : found y ls ≡ found x ls = ap (λ z. found z ls) is in
+      absurd (cc)
   | inr other ↦ other
 ]
 

@@ -89,7 +89,7 @@ payload_leaves : (ms : Fields) (hash : HashName) → IsSound (object ms) → nam
 payload_leaves ms hash sound e =
     let both = and_parts (ascend (member_names (plain_fields ms))) (hold_claims (plain_fields ms)) sound in
     leaves_hash ms (has_one sd_alg ms both.0)
-        (λ d here. hash_is_text (as_str d) hash (sym (ap (λ o. option_map_or (λ v. option_and_then hash_named (as_str v)) o (Some Sha256)) here) ∙ e))
+    (λ d here. hash_is_text (as_str d) hash (sym (ap (λ o. option_map_or (λ v. option_and_then hash_named (as_str v)) o (Some Sha256)) here) ∙ e))
 
 -- ---- placing
 
@@ -150,9 +150,9 @@ module _ (e : Envelope) (texts : List Utf8) (c : Credential) (r : Says e texts c
   own_held flat =
       held_on (reach_rule e.payload r.disclosures) _ (rule_held 10 _ (ap not flat.0))
       (held_on (names_rule e.payload r.disclosures) _
-        (held_on (rule 11 (list_any (is_mismatch r.disclosures) (all_places e.payload r.disclosures))) _ (rule_held 11 _ flat.1)
-        (held_on (rule 12 (any_clash e.payload r.disclosures)) _ (rule_held 12 _ flat.2)
-        (held_on (rule 13 (list_any (λ k. is_among k reserved) (top_names r.disclosures e.payload))) [] (rule_held 13 _ r.none_reserved) refl)))
+      (held_on (rule 11 (list_any (is_mismatch r.disclosures) (all_places e.payload r.disclosures))) _ (rule_held 11 _ flat.1)
+      (held_on (rule 12 (any_clash e.payload r.disclosures)) _ (rule_held 12 _ flat.2)
+      (held_on (rule 13 (list_any (λ k. is_among k reserved) (top_names r.disclosures e.payload))) [] (rule_held 13 _ r.none_reserved) refl)))
       (held_on (depth_rule e.payload r.disclosures) [] (rule_held 14 _ (ap is_none spelled_is)) refl))
 
   later_held : IsSound e.payload → later_rule e.payload r.disclosures ≡ None
@@ -160,7 +160,7 @@ module _ (e : Envelope) (texts : List Utf8) (c : Credential) (r : Says e texts c
   later_held sound =
       let flat = flat_at e.payload r.disclosures r.members r.used r.hash (all_sound r.hash texts r.disclosures r.are_disclosed) sound r.names_hash r.spells r.uses_each in
       held_on (placing_rule e.payload r.disclosures) _
-          (held_on (marks_rule e.payload r.disclosures) _ marks_held (held_on (double_rule e.payload r.disclosures) _ double_held (held_on (own_place_rule e.payload r.disclosures) [] (own_held flat) refl)))
+      (held_on (marks_rule e.payload r.disclosures) _ marks_held (held_on (double_rule e.payload r.disclosures) _ double_held (held_on (own_place_rule e.payload r.disclosures) [] (own_held flat) refl)))
       (held_on (facts_rule e.payload) [] r.facts refl)
 
   inner_held : IsSound e.payload → inner_rule e texts ≡ None
@@ -178,8 +178,7 @@ module _ (e : Envelope) (texts : List Utf8) (c : Credential) (r : Says e texts c
 pub reads_computed : (text : Utf8) (c : Credential) → Reads text c → (refusal_of text ≡ None) × (credential_in text ≡ Some c)
 unfolding refusal_of credential_in
 reads_computed text c r =
-    let e = envelope_of (dot_parts r.0) in
-    (
+    let e = envelope_of (dot_parts r.0) in (
       ap refusal_of_parts r.2 ∙ ap (λ o. either_rule o (inner_rule (envelope_of (dot_parts r.0)) r.1)) r.3 ∙ ap (either_rule None) (inner_held (envelope_of (dot_parts r.0)) r.1 c r.4 (envelope_sound r.0)),
       ap (option_map (λ p. credential_of (envelope_of (dot_parts p.0)) p.1)) r.2 ∙ ap Some (says_is (envelope_of (dot_parts r.0)) r.1 c r.4),
     )

@@ -20,11 +20,11 @@ use Rattle.sdjwt_view.specs.Facts.{facts_rule}
 
 -- ---- what a value spells
 
--- Which value spells which tree, and uses the disclosures of these digests, each as often as it stands there, in the order of the walk.
+-- Which value spells which tree, and uses the disclosures of these digests, each as often as its digest is met, in the order of the walk.
 abbrev pub Way : Type 1
 Way = Data → Tree → List Utf8 → Type 0
 
--- The elements of a list in order (section 7.1, steps 3 c and d): a plain one is not held. A placeholder with the digest of a disclosure without a
+-- The elements of a list in order (sections 4.2.4.2 and 7.1, step 3): a plain one is not held. A placeholder with the digest of a disclosure without a
 -- name gives an element that is held and spelled by the disclosure's value. One whose digest no disclosure has gives nothing. For the digest of a
 -- disclosure with a name there is no case.
 pub data SpellElements (Inner : Way) (ls : List Disclosed) : Items → List Part → List Utf8 → Type 0 where
@@ -34,13 +34,13 @@ pub data SpellElements (Inner : Way) (ls : List Disclosed) : Items → List Part
       → SpellElements Inner ls (item d ds) ((true, t) ∷ es) (x ∷ us ++ vs)
   undisclosed : {d : Data} {ds : Items} {x : Utf8} {es : List Part} {vs : List Utf8} → placeholder d ≡ Some x → found x ls ≡ None → SpellElements Inner ls ds es vs → SpellElements Inner ls (item d ds) es vs
 
--- The members of an object as they stand: each but those that are left out, not held.
+-- The members of an object as they stand, not held: each but `_sd` and, in the payload, `_sd_alg` (section 7.1, step 3).
 pub data SpellPlain (Inner : Way) (left : List Utf8) : Fields → List Named → List Utf8 → Type 0 where
   no_more : SpellPlain Inner left no_fields [] []
   no_claim : {k : Utf8} {d : Data} {ms : Fields} {ns : List Named} {us : List Utf8} → is_among k left ≡ true → SpellPlain Inner left ms ns us → SpellPlain Inner left (field k d ms) ns us
   plain : {k : Utf8} {d : Data} {ms : Fields} {t : Tree} {ns : List Named} {us vs : List Utf8} → is_among k left ≡ false → Inner d t us → SpellPlain Inner left ms ns vs → SpellPlain Inner left (field k d ms) ((k, false, t) ∷ ns) (us ++ vs)
 
--- The members that an object gets by the digests of its `_sd`: each digest of a disclosure with a name gives a member of that name, held and spelled
+-- The members that an object gets by the digests of its `_sd` (sections 4.2.4.1 and 7.1, step 3): each digest of a disclosure with a name gives a member of that name, held and spelled
 -- by the disclosure's value. One that no disclosure has gives nothing. For the digest of a disclosure without a name there is no case.
 pub data SpellHeld (Inner : Way) (ls : List Disclosed) : List Utf8 → List Named → List Utf8 → Type 0 where
   no_more : SpellHeld Inner ls [] [] []
@@ -53,11 +53,18 @@ abbrev pub put_members : List Named → List Named → List Named
 put_members [] ns = ns
 put_members (h ∷ hs) ns = put_members hs (put_member h ns)
 
--- The members of an object: its plain ones and those that come by its digests, whose names differ from each other and from that of each member.
-abbrev pub SpellMembers : Bool → Way → List Disclosed → Fields → List Named → List Utf8 → Type 0
-SpellMembers is_payload Inner ls ms ns us =
-    (plain : List Named) × (held : List Named) × (vs : List Utf8) × (ws : List Utf8) × SpellPlain Inner (left_out is_payload) ms plain vs × SpellHeld Inner ls (own_digests ms) held ws
-    × (gets_clash (map (λ n. n.0) held) ms ≡ false) × (ns ≡ put_members held plain) × (us ≡ vs ++ ws)
+-- The members of an object: its plain ones and those that come by its digests. The names of the latter differ from each other and from that of each
+-- member.
+pub record SpellMembers (is_payload : Bool) (Inner : Way) (ls : List Disclosed) (ms : Fields) (ns : List Named) (us : List Utf8) : Type 0 where
+  pub plain : List Named
+  pub held : List Named
+  pub plain_uses : List Utf8
+  pub held_uses : List Utf8
+  pub spells_plain : SpellPlain Inner (left_out is_payload) ms plain plain_uses
+  pub spells_held : SpellHeld Inner ls (own_digests ms) held held_uses
+  pub names_differ : gets_clash (map (λ n. n.0) held) ms ≡ false
+  pub are_members : ns ≡ put_members held plain
+  pub are_uses : us ≡ plain_uses ++ held_uses
 
 -- A value with at most n lists and records inside one another. A text, a number, a truth value and null spell the like tree. A list is loose
 -- exactly where it has a placeholder.
@@ -82,12 +89,12 @@ abbrev pub times : Utf8 → List Utf8 → ℕ
 times x [] = 0
 times x (u ∷ us) = (if bytes_eq u x then 1 else 0) + times x us
 
--- no two disclosures have one digest, and each is used once
+-- no two disclosures have one digest, and each is used once (section 7.1, step 5)
 abbrev pub UsesEach : List Disclosed → List Utf8 → Type 0
 UsesEach ls us = (differ (map (λ l. l.digest) ls) ≡ true) × AllByRecursion (λ l. times l.digest us ≡ 1) ls
 
 -- A signed message and the texts of disclosures: the payload spells the record of these members and uses each disclosure in exactly one place. No digest
--- stands in two places. The rules on types, forms and limits hold, and those on what the message says of itself.
+-- stands in two places (section 7.1, step 4). The rules on types, forms and limits hold, and those on what the message says of itself.
 pub record Says (e : Envelope) (texts : List Utf8) (c : Credential) : Type 0 where
   pub is_typed : has_sd_type e.header ≡ true
   pub hash : HashName
