@@ -73,6 +73,6 @@ spells_computed (suc n) ls (object ms) t us s =
     ap (option_map (λ ns. RecordOf (members_of ns))) (members_computed false (Spells n ls) (spelled n ls) ls (spells_computed n ls) ms s.0 us s.1) ∙ ap Some (sym s.2)
 
 pub payload_computed : (ls : List Disclosed) (d : Data) (ns : List Named) (us : List Utf8) → SpellsPayload ls d ns us → spelled_payload ls d ≡ Some ns
-unfolding SpellsPayload spelled_payload
+unfolding spelled_payload
 payload_computed ls d ns us s =
-    ap (option_and_then (λ ms. spelled_members true (spelled 63 ls) ls ms)) s.1 ∙ members_computed true (Spells 63 ls) (spelled 63 ls) ls (spells_computed 63 ls) s.0 ns us s.2
+    ap (option_and_then (λ ms. spelled_members true (spelled 63 ls) ls ms)) s.is_object ∙ members_computed true (Spells 63 ls) (spelled 63 ls) ls (spells_computed 63 ls) s.fields ns us s.spells

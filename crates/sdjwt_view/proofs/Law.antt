@@ -31,6 +31,7 @@ use Rattle.sdjwt_view.proofs.PlacingSteps.{first_past}
 use Rattle.sdjwt_view.proofs.ReadSteps.{envelope_sound}
 use Rattle.sdjwt_view.proofs.Uses.{HoldFlat, flat_holds, relation_holds}
 use Rattle.sdjwt_view.proofs.ValueClaims.{json_in-claim, salted-claim}
+use Rattle.sdjwt_view.proofs.Walks.{held_names}
 
 -- ---- tables of rules
 
@@ -94,23 +95,27 @@ payload_leaves ms hash sound e =
 -- ---- placing
 
 flat_at : (payload : Data) (ls : List Disclosed) (ns : List Named) (us : List Utf8) (hash : HashName) → AreSound ls → IsSound payload → named_hash payload ≡ Some hash → SpellsPayload ls payload ns us → UsesEach ls us → HoldFlat payload ls
-unfolding SpellsPayload
 flat_at payload ls ns us hash all sound named s each =
-    let is = object_is payload s.0 s.1 in
-    let whole : IsSound (object s.0) = subst IsSound is sound in
-    let texts = payload_leaves s.0 hash whole (ap named_hash (sym is) ∙ named) in
-    subst (λ d. HoldFlat d ls) (sym is) (flat_holds ls s.0 ns us all whole texts s.2 each)
+    let is = object_is payload s.fields s.is_object in
+    let whole : IsSound (object s.fields) = subst IsSound is sound in
+    let texts = payload_leaves s.fields hash whole (ap named_hash (sym is) ∙ named) in
+    subst (λ d. HoldFlat d ls) (sym is) (flat_holds ls s.fields ns us all whole texts s.spells each)
+
+-- the names that come to the top object are those of the members that are held
+top_held : (payload : Data) (ls : List Disclosed) (ms : Fields) (ns : List Named) (us : List Utf8) → as_object payload ≡ Some ms → (s : SpellMembers true (Spells 63 ls) ls ms ns us) → top_names ls payload ≡ map (λ n. n.0) s.held
+top_held payload ls ms ns us e s = rw (e, top_names) (held_names ls (Spells 63 ls) s.spells_held)
 
 relation_at : (payload : Data) (ls : List Disclosed) (ns : List Named) (hash : HashName) → AreSound ls → IsSound payload → named_hash payload ≡ Some hash → differ (map digest_at (all_places payload ls)) ≡ true → HoldFlat payload ls
-    → spelled_payload ls payload ≡ Some ns → (us : List Utf8) × SpellsPayload ls payload ns us × UsesEach ls us
-unfolding SpellsPayload spelled_payload
-relation_at payload ls ns hash all sound named apart flat h =
+    → list_any (λ k. is_among k reserved) (top_names ls payload) ≡ false → spelled_payload ls payload ≡ Some ns → (us : List Utf8) × SpellsPayload ls payload ns us × UsesEach ls us
+unfolding spelled_payload
+relation_at payload ls ns hash all sound named apart flat kept h =
     let a = split_joined (λ ms. spelled_members true (spelled 63 ls) ls ms) (as_object payload) ns h in
     let is = object_is payload a.0 a.1 in
     let whole : IsSound (object a.0) = subst IsSound is sound in
     let texts = payload_leaves a.0 hash whole (ap named_hash (sym is) ∙ named) in
     let r = relation_holds ls a.0 ns all whole texts (subst (λ d. differ (map digest_at (all_places d ls)) ≡ true) is apart) (subst (λ d. HoldFlat d ls) is flat) a.2 in
-    (r.0, (a.0, a.1, r.1), r.2)
+    let free = ap (list_any (λ k. is_among k reserved)) (sym (top_held payload ls a.0 ns r.0 a.1 r.1)) ∙ kept in
+    (r.0, record { fields = a.0; is_object = a.1; spells = r.1; none_reserved = free }, r.2)
 
 -- ---- from the relation
 
@@ -145,6 +150,9 @@ module _ (e : Envelope) (texts : List Utf8) (c : Credential) (r : Says e texts c
   unfolding double_rule
   double_held = rule_held 9 _ (ap not r.apart)
 
+  none_kept : list_any (λ k. is_among k reserved) (top_names r.disclosures e.payload) ≡ false
+  none_kept = ap (list_any (λ k. is_among k reserved)) (top_held e.payload r.disclosures r.spells.fields r.members r.used r.spells.is_object r.spells.spells) ∙ r.spells.none_reserved
+
   own_held : HoldFlat e.payload r.disclosures → own_place_rule e.payload r.disclosures ≡ None
   unfolding reach_rule names_rule depth_rule
   own_held flat =
@@ -152,7 +160,7 @@ module _ (e : Envelope) (texts : List Utf8) (c : Credential) (r : Says e texts c
       (held_on (names_rule e.payload r.disclosures) _
       (held_on (rule 11 (list_any (is_mismatch r.disclosures) (all_places e.payload r.disclosures))) _ (rule_held 11 _ flat.1)
       (held_on (rule 12 (any_clash e.payload r.disclosures)) _ (rule_held 12 _ flat.2)
-      (held_on (rule 13 (list_any (λ k. is_among k reserved) (top_names r.disclosures e.payload))) [] (rule_held 13 _ r.none_reserved) refl)))
+      (held_on (rule 13 (list_any (λ k. is_among k reserved) (top_names r.disclosures e.payload))) [] (rule_held 13 _ none_kept) refl)))
       (held_on (depth_rule e.payload r.disclosures) [] (rule_held 14 _ (ap is_none spelled_is)) refl))
 
   later_held : IsSound e.payload → later_rule e.payload r.disclosures ≡ None
@@ -248,7 +256,7 @@ says_computed e texts sound h =
     let own = own_parts e.payload list.0 placing.2 in
     let members = none_not (spelled_payload list.0 e.payload) own.2 in
     let read : all_disclosed hash.0 texts ≡ Some list.0 = sym (ap (λ k. all_disclosed k texts) is_hash) ∙ list.1 in
-    let r = relation_at e.payload list.0 members.0 hash.0 (all_sound hash.0 texts list.0 read) sound hash.1 apart own.0 members.1 in
+    let r = relation_at e.payload list.0 members.0 hash.0 (all_sound hash.0 texts list.0 read) sound hash.1 apart own.0 own.1 members.1 in
     record {
       is_typed = front.0;
       hash = hash.0;
@@ -264,7 +272,6 @@ says_computed e texts sound h =
       used = r.0;
       spells = r.1;
       uses_each = r.2;
-      none_reserved = own.1;
       facts = facts.0;
       says = ap (λ k. credential_with e k (members_with e.payload (disclosures_of e texts))) is_hash
           ∙ ap (λ ls. credential_with e hash.0 (members_with e.payload ls)) is_list

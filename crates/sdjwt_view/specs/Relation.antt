@@ -13,7 +13,7 @@ use Rattle.claim_tree.specs.Plain.{plain_number}
 use Rattle.claim_tree.specs.Parts.{Part, Named, elements_of, members_of, put_member}
 use Rattle.sdjwt_view.specs.Disclosures.{Utf8, is_among, differ, Disclosed, all_disclosed, found}
 use Rattle.sdjwt_view.specs.Places.{placeholder, own_digests, gets_clash, digest_at, all_places, is_sound}
-use Rattle.sdjwt_view.specs.Placing.{names_mark, reserved, top_names}
+use Rattle.sdjwt_view.specs.Placing.{names_mark, reserved}
 use Rattle.sdjwt_view.specs.Spelling.{has_placeholder, left_out}
 use Rattle.sdjwt_view.specs.Reading.{Credential, pieces, parts_of, has_sd_type, named_hash, most_disclosures, credential_with}
 use Rattle.sdjwt_view.specs.Facts.{facts_rule}
@@ -78,9 +78,13 @@ Spells zero ls (object ms) t us = ⊥
 Spells (suc n) ls (array ds) t us = (es : List Part) × SpellElements (Spells n ls) ls ds es us × (t ≡ ListOf (has_placeholder ds) (elements_of es))
 Spells (suc n) ls (object ms) t us = (ns : List Named) × SpellMembers false (Spells n ls) ls ms ns us × (t ≡ RecordOf (members_of ns))
 
--- The payload is an object with at most 64 lists and records inside one another, itself among them.
-unfoldable pub SpellsPayload : List Disclosed → Data → List Named → List Utf8 → Type 0
-SpellsPayload ls payload ns us = (ms : Fields) × (as_object payload ≡ Some ms) × SpellMembers true (Spells 63 ls) ls ms ns us
+-- The payload is an object with at most 64 lists and records inside one another, itself among them. No member that comes by a digest has a name that
+-- is kept for what the issuer says in plain.
+pub record SpellsPayload (ls : List Disclosed) (payload : Data) (ns : List Named) (us : List Utf8) : Type 0 where
+  pub fields : Fields
+  pub is_object : as_object payload ≡ Some fields
+  pub spells : SpellMembers true (Spells 63 ls) ls fields ns us
+  pub none_reserved : list_any (λ k. is_among k reserved) (map (λ n. n.0) spells.held) ≡ false
 
 -- ---- what a text says
 
@@ -110,7 +114,6 @@ pub record Says (e : Envelope) (texts : List Utf8) (c : Credential) : Type 0 whe
   pub used : List Utf8
   pub spells : SpellsPayload disclosures e.payload members used
   pub uses_each : UsesEach disclosures used
-  pub none_reserved : list_any (λ k. is_among k reserved) (top_names disclosures e.payload) ≡ false
   pub facts : facts_rule e.payload ≡ None
   pub says : c ≡ credential_with e hash members
 
