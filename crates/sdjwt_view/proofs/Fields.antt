@@ -1,5 +1,5 @@
 -- The places under an object: those of its plain members and those of its `_sd`.
-use Rattle.std.proofs.Common.{◌≡◌, ℕ, ◌+◌, Bool, true, false, cond, ◌||◌, List, [], ◌∷◌, ◌++◌, map, Option, Some, None, Ordering, Less, Equal, Greater, nat_cmp, refl, sym, ap, ◌∙◌, arith, inl, inr}
+use Rattle.std.proofs.Common.{◌≡◌, ℕ, ◌+◌, Bool, true, false, cond, ◌||◌, List, [], ◌++◌, map, Some, None, Ordering, Less, Equal, Greater, nat_cmp, refl, sym, ap, ◌∙◌, arith, inl, inr}
 use Rattle.std.specs.Prelude.{⊤}
 use Rattle.std.specs.Option.{is_some}
 use Rattle.std.specs.List.{list_all}
@@ -8,12 +8,12 @@ use Rattle.std.specs.Cmp.Lexicographic.{slice_cmp}
 use Rattle.std.specs.Str.{bytes_eq}
 use Rattle.std.proofs.lemmas.Bool.{cases_Bool, and_parts}
 use Rattle.std.proofs.lemmas.Map.Text.{is_eq-slice_cmp}
-use Rattle.serde_json.specs.Data.{Data, string, Items, Members as Fields, no_members as no_fields, member as field}
-use Rattle.serde_json.specs.Find.{as_str, as_array, get_member}
+use Rattle.serde_json.specs.Data.{Data, string, Members as Fields, no_members as no_fields, member as field}
+use Rattle.serde_json.specs.Find.{as_str, get_member}
 use Rattle.claim_tree.specs.Tree.{Name, ascend, member_names}
 use Rattle.claim_tree.specs.Plain.{plain_members as plain_fields}
 use Rattle.sdjwt_view.specs.Disclosures.{Utf8, is_among}
-use Rattle.sdjwt_view.specs.Places.{sd, Place, in_object, digest_at, listed, texts_in, own_digests, places_in, places_under}
+use Rattle.sdjwt_view.specs.Places.{sd, Place, in_object, listed, own_digests, places_in, places_under}
 use Rattle.sdjwt_view.specs.Spelling.{sd_alg, left_out}
 use Rattle.sdjwt_view.proofs.FirstPlaces.{same_from, bytes_eq-flip}
 

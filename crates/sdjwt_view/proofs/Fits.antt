@@ -1,12 +1,12 @@
 -- What is known of a walk over some places that uses some disclosures, put together part by part.
-use Rattle.std.proofs.Common.{◌≡◌, ◌≤◌, ℕ, zero, suc, ◌+◌, Bool, true, false, List, [], ◌∷◌, ◌++◌, length, map, Option, Some, None, refl, sym, ap, ◌∙◌, arith, inl, inr, length-append}
+use Rattle.std.proofs.Common.{◌≡◌, ◌≤◌, ℕ, zero, suc, ◌+◌, true, false, List, [], ◌∷◌, ◌++◌, length, map, Some, None, refl, ap, ◌∙◌, arith, inl, inr, length-append}
 use Rattle.std.specs.List.{AllByRecursion}
 use Rattle.std.specs.Str.{bytes_eq}
 use Rattle.std.proofs.lemmas.Bool.{cases_Bool}
 use Rattle.std.proofs.lemmas.List.{map-append}
-use Rattle.serde_json.specs.Data.{Data, Members as Fields}
+use Rattle.serde_json.specs.Data.{Members as Fields}
 use Rattle.sdjwt_view.specs.Disclosures.{Utf8, is_among, Disclosed, found}
-use Rattle.sdjwt_view.specs.Places.{sd, Place, in_object, in_list, digest_at, own_digests, places_in, places_under, digests_in, reached, reached_by, is_mismatch, has_clash}
+use Rattle.sdjwt_view.specs.Places.{sd, Place, in_object, in_list, digest_at, own_digests, places_in, places_under, reached, reached_by, is_mismatch, has_clash}
 use Rattle.sdjwt_view.specs.Relation.{times}
 use Rattle.sdjwt_view.proofs.Counting.{one, one_false, times-append}
 use Rattle.sdjwt_view.proofs.Fields.{HasOne, LeavesTexts, plain_places, under_parts}

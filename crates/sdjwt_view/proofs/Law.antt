@@ -5,7 +5,7 @@ use Rattle.std.specs.Option.{is_some, option_map_or}
 use Rattle.std.specs.List.{list_any, list_all}
 use Rattle.std.proofs.lemmas.Bool.{and_parts, and_from, ltb-false, le-ltb}
 use Rattle.serde_json.specs.Data.{Data, null, boolean, number, string, array, object, Members as Fields}
-use Rattle.serde_json.specs.Find.{as_object, as_str, get, get_member}
+use Rattle.serde_json.specs.Find.{as_object, as_str}
 use Rattle.rule_tables.specs.Rules.{rule, first}
 use Rattle.base_forms.specs.Hash.{hash_named}
 use Rattle.base_forms.specs.declared.hash.HashName.{HashName}
@@ -17,11 +17,11 @@ use Rattle.claim_tree.specs.Tree.{ascend, hold_claims, member_names}
 use Rattle.claim_tree.specs.Plain.{plain_members as plain_fields}
 use Rattle.claim_tree.specs.Parts.{Named}
 use Rattle.sdjwt_view.specs.Disclosures.{Utf8, is_among, differ, Disclosed, salted, json_in, digest_of, disclosed, all_disclosed}
-use Rattle.sdjwt_view.specs.Places.{digest_at, all_places, are_placed, is_mismatch, is_sound}
+use Rattle.sdjwt_view.specs.Places.{digest_at, all_places, is_mismatch, is_sound}
 use Rattle.sdjwt_view.specs.Placing.{names_mark, reserved, top_names, any_clash, marks_rule, double_rule, reach_rule, names_rule, depth_rule, own_place_rule, placing_rule}
 use Rattle.sdjwt_view.specs.Spelling.{sd_alg, left_out, spelled, spelled_members, spelled_payload}
 use Rattle.sdjwt_view.specs.Facts.{facts_rule}
-use Rattle.sdjwt_view.specs.Reading.{Credential, pieces, parts_of, has_sd_type, named_hash, hash_of, most_disclosures, disclosures_of, front_rule, later_rule, inner_rule, Refusal, either_rule, refusal_of_parts, refusal_of, credential_with, members_with, credential_of, credential_in}
+use Rattle.sdjwt_view.specs.Reading.{Credential, pieces, parts_of, has_sd_type, named_hash, hash_of, most_disclosures, disclosures_of, front_rule, later_rule, inner_rule, either_rule, refusal_of_parts, refusal_of, credential_with, members_with, credential_of, credential_in}
 use Rattle.sdjwt_view.specs.Relation.{Spells, SpellMembers, SpellsPayload, UsesEach, Says, Reads}
 use Rattle.sdjwt_view.proofs.Built.{split_joined, split_map}
 use Rattle.sdjwt_view.proofs.Claims.{IsSound, AreSound}

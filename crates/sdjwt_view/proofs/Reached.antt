@@ -1,13 +1,13 @@
 -- How often a digest is reached.
-use Rattle.std.proofs.Common.{◌≡◌, ◌≤◌, ℕ, zero, suc, ◌+◌, true, false, cond, List, [], ◌∷◌, ◌++◌, length, map, Option, Some, None, refl, sym, ap, ◌∙◌, arith, inl, inr, append_assoc}
+use Rattle.std.proofs.Common.{◌≡◌, ◌≤◌, ℕ, zero, suc, ◌+◌, true, false, cond, List, [], ◌∷◌, ◌++◌, map, Option, Some, None, refl, ap, ◌∙◌, arith, inl, inr}
 use Rattle.std.specs.Str.{bytes_eq}
 use Rattle.std.proofs.lemmas.Bool.{cases_Bool}
 use Rattle.std.proofs.lemmas.List.{map-append}
 use Rattle.serde_json.specs.Data.{Data}
 use Rattle.sdjwt_view.specs.Disclosures.{Utf8, differ, Disclosed, found}
-use Rattle.sdjwt_view.specs.Places.{Place, digest_at, places_in, digests_in, values_places, all_places, reached, reached_by}
+use Rattle.sdjwt_view.specs.Places.{digest_at, places_in, digests_in, values_places, all_places, reached, reached_by}
 use Rattle.sdjwt_view.specs.Relation.{times}
-use Rattle.sdjwt_view.proofs.Counting.{one, one_true, one_false, times-append, differ_times}
+use Rattle.sdjwt_view.proofs.Counting.{one_true, one_false, times-append, differ_times}
 use Rattle.sdjwt_view.proofs.FirstPlaces.{bytes_eq-flip}
 
 -- what a disclosure that is found gives

@@ -1,22 +1,21 @@
 -- Each disclosure is used once exactly where the flat tests on places hold.
-use Rattle.std.proofs.Common.{◌≡◌, ◌≤◌, ℕ, suc, ◌+◌, Bool, true, false, not, ◌&&◌, ◌||◌, cond, List, [], ◌∷◌, ◌++◌, length, map, Option, Some, None, option_and_then, refl, sym, ap, ◌∙◌, subst, arith, inl, inr}
+use Rattle.std.proofs.Common.{◌≡◌, ◌≤◌, suc, ◌+◌, Bool, true, false, not, cond, List, [], ◌∷◌, length, map, Some, refl, sym, ap, ◌∙◌, subst, arith, inl, inr}
 use Rattle.std.specs.List.{AllByRecursion, list_any, list_all}
 use Rattle.std.specs.Str.{bytes_eq}
 use Rattle.std.proofs.lemmas.Bool.{cases_Bool, and_parts, and_from, or_parts, or_from}
 use Rattle.serde_json.specs.Data.{Data, object, Members as Fields}
 use Rattle.claim_tree.specs.Parts.{Named}
 use Rattle.sdjwt_view.specs.Disclosures.{Utf8, is_among, differ, Disclosed, found}
-use Rattle.sdjwt_view.specs.Places.{Place, digest_at, places_in, places_under, digests_in, values_places, all_places, reached, are_reached, are_placed, is_mismatch, has_clash}
+use Rattle.sdjwt_view.specs.Places.{Place, digest_at, places_in, values_places, all_places, reached, are_reached, are_placed, is_mismatch, has_clash}
 use Rattle.sdjwt_view.specs.Placing.{any_clash}
 use Rattle.sdjwt_view.specs.Spelling.{left_out, spelled, spelled_members}
 use Rattle.sdjwt_view.specs.Relation.{times, Spells, SpellMembers, UsesEach}
 use Rattle.sdjwt_view.proofs.Built.{IsFine, AreFine, members_built, spells_built}
 use Rattle.sdjwt_view.proofs.Claims.{IsSound, AreSound}
-use Rattle.sdjwt_view.proofs.Computed.{members_computed, spells_computed}
-use Rattle.sdjwt_view.proofs.Counting.{one, one_true, one_false, same_text, among_from, times_some, few_used}
+use Rattle.sdjwt_view.proofs.Counting.{one_true, one_false, same_text, among_from, times_some, few_used}
 use Rattle.sdjwt_view.proofs.Fields.{LeavesTexts}
 use Rattle.sdjwt_view.proofs.FirstPlaces.{same_from, bytes_eq-flip}
-use Rattle.sdjwt_view.proofs.Fits.{IsUsed, Fits, misses, misses-append, gathered}
+use Rattle.sdjwt_view.proofs.Fits.{IsUsed, Fits, misses, misses-append}
 use Rattle.sdjwt_view.proofs.Reached.{reached_more, further, at_most_once}
 use Rattle.sdjwt_view.proofs.Walks.{members_fit, spells_fit}
 

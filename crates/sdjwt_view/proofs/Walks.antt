@@ -5,17 +5,17 @@ use Rattle.std.specs.Option.{is_some}
 use Rattle.std.specs.Str.{bytes_eq}
 use Rattle.std.specs.List.{list_any}
 use Rattle.std.proofs.lemmas.Bool.{cases_Bool, and_parts, and_left, and_right, or_from, not_from_true}
-use Rattle.serde_json.specs.Data.{Data, null, boolean, number, string, array, object, Items, no_items, item, Members as Fields, no_members as no_fields, member as field}
-use Rattle.serde_json.specs.Find.{as_str, as_object}
+use Rattle.serde_json.specs.Data.{Data, null, boolean, number, string, array, object, Items, item, Members as Fields}
+use Rattle.serde_json.specs.Find.{as_str}
 use Rattle.claim_tree.specs.Tree.{Tree, ascend, is_claim, are_claims, hold_claims, member_names, element_marks}
 use Rattle.claim_tree.specs.Plain.{plain, plain_elements, plain_members as plain_fields}
 use Rattle.claim_tree.specs.Parts.{Part, Named}
-use Rattle.sdjwt_view.specs.Disclosures.{Utf8, is_among, Disclosed, found}
-use Rattle.sdjwt_view.specs.Places.{sd, Place, in_object, in_list, placeholder, is_placeholder, own_digests, places_in, places_among, places_under, is_mismatch, disclosed_names, gets_clash, has_clash, have_clash, holds_clash}
+use Rattle.sdjwt_view.specs.Disclosures.{Utf8, Disclosed, found}
+use Rattle.sdjwt_view.specs.Places.{sd, in_object, in_list, placeholder, is_placeholder, own_digests, places_in, places_among, places_under, is_mismatch, disclosed_names, gets_clash, has_clash, have_clash, holds_clash}
 use Rattle.sdjwt_view.specs.Spelling.{left_out}
 use Rattle.sdjwt_view.specs.Relation.{Way, SpellElements, SpellPlain, SpellHeld, SpellMembers, Spells}
 use Rattle.sdjwt_view.proofs.Claims.{IsSound, AreSound, found_sound}
-use Rattle.sdjwt_view.proofs.Fields.{HasOne, LeavesTexts, has_one, sd_left, leaves_inner, plain_places}
+use Rattle.sdjwt_view.proofs.Fields.{LeavesTexts, has_one, sd_left, leaves_inner, plain_places}
 use Rattle.sdjwt_view.proofs.Fits.{Fits, fits_none, fits-append, fits_undisclosed, fits_disclosed, fits_under}
 
 -- ---- what a disclosure's kind says
