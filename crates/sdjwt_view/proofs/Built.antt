@@ -9,7 +9,7 @@ use Rattle.claim_tree.specs.Tree.{Tree, ListOf, RecordOf, ascend, is_claim, are_
 use Rattle.claim_tree.specs.Plain.{plain, plain_elements, plain_members as plain_fields}
 use Rattle.claim_tree.specs.Parts.{Part, Named, elements_of, members_of, put_member}
 use Rattle.sdjwt_view.specs.Disclosures.{Utf8, is_among, Disclosed, found}
-use Rattle.sdjwt_view.specs.Places.{sd, Place, in_object, in_list, placeholder, is_placeholder, own_digests, places_in, places_among, places_under, is_mismatch, disclosed_names, gets_clash, has_clash, have_clash, holds_clash}
+use Rattle.sdjwt_view.specs.Places.{sd, in_object, in_list, placeholder, is_placeholder, own_digests, places_in, places_among, places_under, is_mismatch, disclosed_names, gets_clash, has_clash, have_clash, holds_clash}
 use Rattle.sdjwt_view.specs.Spelling.{has_placeholder, left_out, disclosed_element, spelled_element, spelled_elements, plain_members, with_disclosure, with_disclosures, spelled_members, spelled}
 use Rattle.sdjwt_view.specs.Relation.{Way, SpellElements, SpellPlain, SpellHeld, put_members, SpellMembers, Spells}
 use Rattle.sdjwt_view.proofs.Claims.{IsSound}
@@ -139,8 +139,8 @@ module _ (ls : List Disclosed) (Inner : Way) (inner : Data → Option Tree) (bui
       ] in
       let i = build d a.0 sound (kind, past_sd (bytes_eq k sd) (has_clash ls d) clash no_sd) a.1 in
       (i.0 ++ r.0, subst (λ os. SpellPlain Inner (left_out is_payload) (field k d ms) os (i.0 ++ r.0)) b.2 (SpellPlain.plain e i.1 r.1)) where
-    clashing : (b : Bool) → b ≡ true → b ≡ false → ⊥
-    clashing b e f = cc
+        clashing : (b : Bool) → b ≡ true → b ≡ false → ⊥
+        clashing b e f = cc
 
   plain_built : (is_payload : Bool) (ms : Fields) (ns : List Named) → hold_claims (plain_fields ms) ≡ true → misses ls (plain_places (left_out is_payload) ms) ≡ 0 → holds_clash ls ms ≡ false → plain_members is_payload inner ms ≡ Some ns
       → (us : List Utf8) × SpellPlain Inner (left_out is_payload) ms ns us
@@ -161,8 +161,20 @@ module _ (ls : List Disclosed) (Inner : Way) (inner : Data → Option Tree) (bui
       let parts = under_parts (misses ls) (misses-append ls) refl (left_out is_payload) (sd_left is_payload) ms (has_one sd ms both.0) texts in
       let a = split_joined (with_disclosures inner ls (own_digests ms)) (plain_members is_payload inner ms) ns h in
       let p = plain_built is_payload ms a.0 both.1 (omega arith) apart.1 a.1 in
-      let q = held_built (own_digests ms) a.0 ns (omega arith) a.2 in
-      (p.0 ++ q.1, (a.0, q.0, p.0, q.1, p.1, q.2, ap (λ ks. gets_clash ks ms) (sym (held_names ls Inner q.2)) ∙ apart.0, q.3, refl))
+      let q = held_built (own_digests ms) a.0 ns (omega arith) a.2 in (
+        p.0 ++ q.1,
+        record {
+          plain = a.0;
+          held = q.0;
+          plain_uses = p.0;
+          held_uses = q.1;
+          spells_plain = p.1;
+          spells_held = q.2;
+          names_differ = ap (λ ks. gets_clash ks ms) (sym (held_names ls Inner q.2)) ∙ apart.0;
+          are_members = q.3;
+          are_uses = refl;
+        },
+      )
 
 -- ---- values
 

@@ -1,10 +1,9 @@
 -- What spells by the relation is computed.
 use Rattle.std.proofs.Common.{◌≡◌, ℕ, zero, suc, Bool, true, false, cond, List, [], ◌∷◌, ◌++◌, Option, Some, None, option_map, option_and_then, refl, sym, ap, ◌∙◌}
-use Rattle.serde_json.specs.Data.{Data, null, boolean, number, string, array, object, Items, no_items, item, Members as Fields, no_members as no_fields, member as field}
-use Rattle.serde_json.specs.Find.{as_object}
+use Rattle.serde_json.specs.Data.{Data, null, boolean, number, string, array, object, Items, Members as Fields}
 use Rattle.claim_tree.specs.Tree.{Tree, ListOf, RecordOf}
 use Rattle.claim_tree.specs.Parts.{Part, Named, elements_of, members_of, put_member}
-use Rattle.sdjwt_view.specs.Disclosures.{Utf8, is_among, Disclosed, found}
+use Rattle.sdjwt_view.specs.Disclosures.{Utf8, Disclosed, found}
 use Rattle.sdjwt_view.specs.Places.{placeholder, own_digests}
 use Rattle.sdjwt_view.specs.Spelling.{has_placeholder, left_out, disclosed_element, spelled_element, spelled_elements, plain_members, with_disclosure, with_disclosures, spelled_members, spelled, spelled_payload}
 use Rattle.sdjwt_view.specs.Relation.{Way, SpellElements, SpellPlain, SpellHeld, put_members, SpellMembers, Spells, SpellsPayload}
@@ -58,7 +57,7 @@ plain_computed Inner inner c is_payload (SpellPlain.plain {k = k} {d = d} {ms = 
 pub members_computed : (is_payload : Bool) (Inner : Way) (inner : Data → Option Tree) (ls : List Disclosed) → Computes Inner inner → (ms : Fields) (ns : List Named) (us : List Utf8) → SpellMembers is_payload Inner ls ms ns us
     → spelled_members is_payload inner ls ms ≡ Some ns
 members_computed is_payload Inner inner ls c ms ns us s =
-    ap (option_and_then (with_disclosures inner ls (own_digests ms))) (plain_computed Inner inner c is_payload s.4) ∙ held_computed Inner inner ls c s.5 s.0 ∙ ap Some (sym s.7)
+    ap (option_and_then (with_disclosures inner ls (own_digests ms))) (plain_computed Inner inner c is_payload s.spells_plain) ∙ held_computed Inner inner ls c s.spells_held s.plain ∙ ap Some (sym s.are_members)
 
 pub spells_computed : (n : ℕ) (ls : List Disclosed) → Computes (Spells n ls) (spelled n ls)
 spells_computed n ls null t us s = ap Some (sym s.0)
@@ -73,6 +72,6 @@ spells_computed (suc n) ls (object ms) t us s =
     ap (option_map (λ ns. RecordOf (members_of ns))) (members_computed false (Spells n ls) (spelled n ls) ls (spells_computed n ls) ms s.0 us s.1) ∙ ap Some (sym s.2)
 
 pub payload_computed : (ls : List Disclosed) (d : Data) (ns : List Named) (us : List Utf8) → SpellsPayload ls d ns us → spelled_payload ls d ≡ Some ns
-unfolding SpellsPayload spelled_payload
+unfolding spelled_payload
 payload_computed ls d ns us s =
-    ap (option_and_then (λ ms. spelled_members true (spelled 63 ls) ls ms)) s.1 ∙ members_computed true (Spells 63 ls) (spelled 63 ls) ls (spells_computed 63 ls) s.0 ns us s.2
+    ap (option_and_then (λ ms. spelled_members true (spelled 63 ls) ls ms)) s.is_object ∙ members_computed true (Spells 63 ls) (spelled 63 ls) ls (spells_computed 63 ls) s.fields ns us s.spells

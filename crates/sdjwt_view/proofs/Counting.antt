@@ -1,5 +1,5 @@
 -- How often texts stand among some.
-use Rattle.std.proofs.Common.{◌≡◌, ◌≤◌, ℕ, ◌+◌, Bool, true, false, not, ◌&&◌, cond, List, [], ◌∷◌, ◌++◌, length, map, refl, ap, arith, inl, inr}
+use Rattle.std.proofs.Common.{◌≡◌, ◌≤◌, ℕ, ◌+◌, Bool, true, false, not, cond, List, [], ◌∷◌, ◌++◌, length, map, refl, ap, arith, inl, inr}
 use Rattle.std.specs.List.{AllByRecursion}
 use Rattle.std.specs.Str.{bytes_eq}
 use Rattle.std.proofs.lemmas.Bool.{cases_Bool, and_parts, and_from, or_parts, not_from_false}
@@ -48,11 +48,11 @@ pub differ_times : (xs : List Utf8) → differ xs ≡ true → (x : Utf8) → ti
 differ_times [] h x = omega arith
 differ_times (y ∷ ys) h x = elim (cases_Bool (bytes_eq y x)) [
   | inl same ↦
-    let both = and_parts (not (is_among y ys)) (differ ys) h in
-    omega (arith, one_true (bytes_eq y x) same, times_at y x ys same (times_none y ys (flipped (is_among y ys) both.0)))
+      let both = and_parts (not (is_among y ys)) (differ ys) h in
+      omega (arith, one_true (bytes_eq y x) same, times_at y x ys same (times_none y ys (flipped (is_among y ys) both.0)))
   | inr other ↦
-    let both = and_parts (not (is_among y ys)) (differ ys) h in
-    omega (arith, one_false (bytes_eq y x) other, differ_times ys both.1 x)
+      let both = and_parts (not (is_among y ys)) (differ ys) h in
+      omega (arith, one_false (bytes_eq y x) other, differ_times ys both.1 x)
 ] where
   flipped : (b : Bool) → not b ≡ true → b ≡ false
   flipped true e = cc

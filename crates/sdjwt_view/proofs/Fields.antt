@@ -1,5 +1,5 @@
 -- The places under an object: those of its plain members and those of its `_sd`.
-use Rattle.std.proofs.Common.{◌≡◌, ℕ, ◌+◌, Bool, true, false, cond, ◌||◌, List, [], ◌∷◌, ◌++◌, map, Option, Some, None, Ordering, Less, Equal, Greater, nat_cmp, refl, sym, ap, ◌∙◌, arith, inl, inr}
+use Rattle.std.proofs.Common.{◌≡◌, ℕ, ◌+◌, Bool, true, false, cond, ◌||◌, List, [], ◌++◌, map, Some, None, Ordering, Less, Equal, Greater, nat_cmp, refl, sym, ap, ◌∙◌, arith, inl, inr}
 use Rattle.std.specs.Prelude.{⊤}
 use Rattle.std.specs.Option.{is_some}
 use Rattle.std.specs.List.{list_all}
@@ -8,12 +8,12 @@ use Rattle.std.specs.Cmp.Lexicographic.{slice_cmp}
 use Rattle.std.specs.Str.{bytes_eq}
 use Rattle.std.proofs.lemmas.Bool.{cases_Bool, and_parts}
 use Rattle.std.proofs.lemmas.Map.Text.{is_eq-slice_cmp}
-use Rattle.serde_json.specs.Data.{Data, string, Items, Members as Fields, no_members as no_fields, member as field}
-use Rattle.serde_json.specs.Find.{as_str, as_array, get_member}
+use Rattle.serde_json.specs.Data.{Data, string, Members as Fields, no_members as no_fields, member as field}
+use Rattle.serde_json.specs.Find.{as_str, get_member}
 use Rattle.claim_tree.specs.Tree.{Name, ascend, member_names}
 use Rattle.claim_tree.specs.Plain.{plain_members as plain_fields}
 use Rattle.sdjwt_view.specs.Disclosures.{Utf8, is_among}
-use Rattle.sdjwt_view.specs.Places.{sd, Place, in_object, digest_at, listed, texts_in, own_digests, places_in, places_under}
+use Rattle.sdjwt_view.specs.Places.{sd, Place, in_object, listed, own_digests, places_in, places_under}
 use Rattle.sdjwt_view.specs.Spelling.{sd_alg, left_out}
 use Rattle.sdjwt_view.proofs.FirstPlaces.{same_from, bytes_eq-flip}
 
@@ -141,29 +141,29 @@ pub under_parts : (F : List Place → ℕ) → ((ps qs : List Place) → F (ps +
 under_parts F more none left has no_fields one texts = omega (arith, none)
 under_parts F more none left has (field k d ms) one texts = elim (cases_Bool (bytes_eq k sd)) [
   | inl here ↦
-    let places : places_under (field k d ms) ≡ map in_object (listed d) ++ places_under ms = ap (λ b. cond b (map in_object (listed d)) (places_in d) ++ places_under ms) here in
-    let plain : plain_places left (field k d ms) ≡ plain_places left ms = ap (λ b. cond b [] (places_in d) ++ plain_places left ms) (has k here) in
-    omega (
-      arith,
-      ap F places,
-      more (map in_object (listed d)) (places_under ms),
-      ap F plain,
-      ap (λ xs. F (map in_object xs)) (own_here k d ms here),
-      ap (λ xs. F (map in_object xs)) (own_empty ms (one.0 here)),
-      under_parts F more none left has ms one.1 texts.1,
-      none,
-    )
+      let places : places_under (field k d ms) ≡ map in_object (listed d) ++ places_under ms = ap (λ b. cond b (map in_object (listed d)) (places_in d) ++ places_under ms) here in
+      let plain : plain_places left (field k d ms) ≡ plain_places left ms = ap (λ b. cond b [] (places_in d) ++ plain_places left ms) (has k here) in
+      omega (
+        arith,
+        ap F places,
+        more (map in_object (listed d)) (places_under ms),
+        ap F plain,
+        ap (λ xs. F (map in_object xs)) (own_here k d ms here),
+        ap (λ xs. F (map in_object xs)) (own_empty ms (one.0 here)),
+        under_parts F more none left has ms one.1 texts.1,
+        none,
+      )
   | inr past ↦
-    let places : places_under (field k d ms) ≡ places_in d ++ places_under ms = ap (λ b. cond b (map in_object (listed d)) (places_in d) ++ places_under ms) past in
-    omega (
-      arith,
-      ap F places,
-      more (places_in d) (places_under ms),
-      more (cond (is_among k left) [] (places_in d)) (plain_places left ms),
-      kept past,
-      ap (λ xs. F (map in_object xs)) (own_past k d ms past),
-      under_parts F more none left has ms one.1 texts.1,
-    )
+      let places : places_under (field k d ms) ≡ places_in d ++ places_under ms = ap (λ b. cond b (map in_object (listed d)) (places_in d) ++ places_under ms) past in
+      omega (
+        arith,
+        ap F places,
+        more (places_in d) (places_under ms),
+        more (cond (is_among k left) [] (places_in d)) (plain_places left ms),
+        kept past,
+        ap (λ xs. F (map in_object xs)) (own_past k d ms past),
+        under_parts F more none left has ms one.1 texts.1,
+      )
 ] where
   kept : bytes_eq k sd ≡ false → F (cond (is_among k left) [] (places_in d)) ≡ F (places_in d)
   kept past = elim (cases_Bool (is_among k left)) [

@@ -1,12 +1,12 @@
 -- What is known of a walk over some places that uses some disclosures, put together part by part.
-use Rattle.std.proofs.Common.{◌≡◌, ◌≤◌, ℕ, zero, suc, ◌+◌, Bool, true, false, List, [], ◌∷◌, ◌++◌, length, map, Option, Some, None, refl, sym, ap, ◌∙◌, arith, inl, inr, length-append}
+use Rattle.std.proofs.Common.{◌≡◌, ◌≤◌, ℕ, zero, suc, ◌+◌, true, false, List, [], ◌∷◌, ◌++◌, length, map, Some, None, refl, ap, ◌∙◌, arith, inl, inr, length-append}
 use Rattle.std.specs.List.{AllByRecursion}
 use Rattle.std.specs.Str.{bytes_eq}
 use Rattle.std.proofs.lemmas.Bool.{cases_Bool}
 use Rattle.std.proofs.lemmas.List.{map-append}
-use Rattle.serde_json.specs.Data.{Data, Members as Fields}
+use Rattle.serde_json.specs.Data.{Members as Fields}
 use Rattle.sdjwt_view.specs.Disclosures.{Utf8, is_among, Disclosed, found}
-use Rattle.sdjwt_view.specs.Places.{sd, Place, in_object, in_list, digest_at, own_digests, places_in, places_under, digests_in, reached, reached_by, is_mismatch, has_clash}
+use Rattle.sdjwt_view.specs.Places.{sd, Place, in_object, in_list, digest_at, own_digests, places_in, places_under, reached, reached_by, is_mismatch, has_clash}
 use Rattle.sdjwt_view.specs.Relation.{times}
 use Rattle.sdjwt_view.proofs.Counting.{one, one_false, times-append}
 use Rattle.sdjwt_view.proofs.Fields.{HasOne, LeavesTexts, plain_places, under_parts}
@@ -74,9 +74,9 @@ no_mismatch ls (in_list x) e = rw (e, is_mismatch) refl
 other_digest : (ls : List Disclosed) (y x : Utf8) (l : Disclosed) → found y ls ≡ None → found x ls ≡ Some l → bytes_eq y x ≡ false
 other_digest ls y x l e f = elim (cases_Bool (bytes_eq y x)) [
   | inl same ↦
-    let is : y ≡ x = same_from y x same in
-    let both : found y ls ≡ found x ls = ap (λ z. found z ls) is in
-    absurd (cc)
+      let is : y ≡ x = same_from y x same in
+      let both : found y ls ≡ found x ls = ap (λ z. found z ls) is in
+      absurd (cc)
   | inr other ↦ other
 ]
 

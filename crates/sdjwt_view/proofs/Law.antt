@@ -5,7 +5,7 @@ use Rattle.std.specs.Option.{is_some, option_map_or}
 use Rattle.std.specs.List.{list_any, list_all}
 use Rattle.std.proofs.lemmas.Bool.{and_parts, and_from, ltb-false, le-ltb}
 use Rattle.serde_json.specs.Data.{Data, null, boolean, number, string, array, object, Members as Fields}
-use Rattle.serde_json.specs.Find.{as_object, as_str, get, get_member}
+use Rattle.serde_json.specs.Find.{as_object, as_str}
 use Rattle.rule_tables.specs.Rules.{rule, first}
 use Rattle.base_forms.specs.Hash.{hash_named}
 use Rattle.base_forms.specs.declared.hash.HashName.{HashName}
@@ -17,11 +17,11 @@ use Rattle.claim_tree.specs.Tree.{ascend, hold_claims, member_names}
 use Rattle.claim_tree.specs.Plain.{plain_members as plain_fields}
 use Rattle.claim_tree.specs.Parts.{Named}
 use Rattle.sdjwt_view.specs.Disclosures.{Utf8, is_among, differ, Disclosed, salted, json_in, digest_of, disclosed, all_disclosed}
-use Rattle.sdjwt_view.specs.Places.{digest_at, all_places, are_placed, is_mismatch, is_sound}
+use Rattle.sdjwt_view.specs.Places.{digest_at, all_places, is_mismatch, is_sound}
 use Rattle.sdjwt_view.specs.Placing.{names_mark, reserved, top_names, any_clash, marks_rule, double_rule, reach_rule, names_rule, depth_rule, own_place_rule, placing_rule}
 use Rattle.sdjwt_view.specs.Spelling.{sd_alg, left_out, spelled, spelled_members, spelled_payload}
 use Rattle.sdjwt_view.specs.Facts.{facts_rule}
-use Rattle.sdjwt_view.specs.Reading.{Credential, pieces, parts_of, has_sd_type, named_hash, hash_of, most_disclosures, disclosures_of, front_rule, later_rule, inner_rule, Refusal, either_rule, refusal_of_parts, refusal_of, credential_with, members_with, credential_of, credential_in}
+use Rattle.sdjwt_view.specs.Reading.{Credential, pieces, parts_of, has_sd_type, named_hash, hash_of, most_disclosures, disclosures_of, front_rule, later_rule, inner_rule, either_rule, refusal_of_parts, refusal_of, credential_with, members_with, credential_of, credential_in}
 use Rattle.sdjwt_view.specs.Relation.{Spells, SpellMembers, SpellsPayload, UsesEach, Says, Reads}
 use Rattle.sdjwt_view.proofs.Built.{split_joined, split_map}
 use Rattle.sdjwt_view.proofs.Claims.{IsSound, AreSound}
@@ -31,6 +31,7 @@ use Rattle.sdjwt_view.proofs.PlacingSteps.{first_past}
 use Rattle.sdjwt_view.proofs.ReadSteps.{envelope_sound}
 use Rattle.sdjwt_view.proofs.Uses.{HoldFlat, flat_holds, relation_holds}
 use Rattle.sdjwt_view.proofs.ValueClaims.{json_in-claim, salted-claim}
+use Rattle.sdjwt_view.proofs.Walks.{held_names}
 
 -- ---- tables of rules
 
@@ -89,28 +90,32 @@ payload_leaves : (ms : Fields) (hash : HashName) → IsSound (object ms) → nam
 payload_leaves ms hash sound e =
     let both = and_parts (ascend (member_names (plain_fields ms))) (hold_claims (plain_fields ms)) sound in
     leaves_hash ms (has_one sd_alg ms both.0)
-        (λ d here. hash_is_text (as_str d) hash (sym (ap (λ o. option_map_or (λ v. option_and_then hash_named (as_str v)) o (Some Sha256)) here) ∙ e))
+    (λ d here. hash_is_text (as_str d) hash (sym (ap (λ o. option_map_or (λ v. option_and_then hash_named (as_str v)) o (Some Sha256)) here) ∙ e))
 
 -- ---- placing
 
 flat_at : (payload : Data) (ls : List Disclosed) (ns : List Named) (us : List Utf8) (hash : HashName) → AreSound ls → IsSound payload → named_hash payload ≡ Some hash → SpellsPayload ls payload ns us → UsesEach ls us → HoldFlat payload ls
-unfolding SpellsPayload
 flat_at payload ls ns us hash all sound named s each =
-    let is = object_is payload s.0 s.1 in
-    let whole : IsSound (object s.0) = subst IsSound is sound in
-    let texts = payload_leaves s.0 hash whole (ap named_hash (sym is) ∙ named) in
-    subst (λ d. HoldFlat d ls) (sym is) (flat_holds ls s.0 ns us all whole texts s.2 each)
+    let is = object_is payload s.fields s.is_object in
+    let whole : IsSound (object s.fields) = subst IsSound is sound in
+    let texts = payload_leaves s.fields hash whole (ap named_hash (sym is) ∙ named) in
+    subst (λ d. HoldFlat d ls) (sym is) (flat_holds ls s.fields ns us all whole texts s.spells each)
+
+-- the names that come to the top object are those of the members that are held
+top_held : (payload : Data) (ls : List Disclosed) (ms : Fields) (ns : List Named) (us : List Utf8) → as_object payload ≡ Some ms → (s : SpellMembers true (Spells 63 ls) ls ms ns us) → top_names ls payload ≡ map (λ n. n.0) s.held
+top_held payload ls ms ns us e s = rw (e, top_names) (held_names ls (Spells 63 ls) s.spells_held)
 
 relation_at : (payload : Data) (ls : List Disclosed) (ns : List Named) (hash : HashName) → AreSound ls → IsSound payload → named_hash payload ≡ Some hash → differ (map digest_at (all_places payload ls)) ≡ true → HoldFlat payload ls
-    → spelled_payload ls payload ≡ Some ns → (us : List Utf8) × SpellsPayload ls payload ns us × UsesEach ls us
-unfolding SpellsPayload spelled_payload
-relation_at payload ls ns hash all sound named apart flat h =
+    → list_any (λ k. is_among k reserved) (top_names ls payload) ≡ false → spelled_payload ls payload ≡ Some ns → (us : List Utf8) × SpellsPayload ls payload ns us × UsesEach ls us
+unfolding spelled_payload
+relation_at payload ls ns hash all sound named apart flat kept h =
     let a = split_joined (λ ms. spelled_members true (spelled 63 ls) ls ms) (as_object payload) ns h in
     let is = object_is payload a.0 a.1 in
     let whole : IsSound (object a.0) = subst IsSound is sound in
     let texts = payload_leaves a.0 hash whole (ap named_hash (sym is) ∙ named) in
     let r = relation_holds ls a.0 ns all whole texts (subst (λ d. differ (map digest_at (all_places d ls)) ≡ true) is apart) (subst (λ d. HoldFlat d ls) is flat) a.2 in
-    (r.0, (a.0, a.1, r.1), r.2)
+    let free = ap (list_any (λ k. is_among k reserved)) (sym (top_held payload ls a.0 ns r.0 a.1 r.1)) ∙ kept in
+    (r.0, record { fields = a.0; is_object = a.1; spells = r.1; none_reserved = free }, r.2)
 
 -- ---- from the relation
 
@@ -145,14 +150,17 @@ module _ (e : Envelope) (texts : List Utf8) (c : Credential) (r : Says e texts c
   unfolding double_rule
   double_held = rule_held 9 _ (ap not r.apart)
 
+  none_kept : list_any (λ k. is_among k reserved) (top_names r.disclosures e.payload) ≡ false
+  none_kept = ap (list_any (λ k. is_among k reserved)) (top_held e.payload r.disclosures r.spells.fields r.members r.used r.spells.is_object r.spells.spells) ∙ r.spells.none_reserved
+
   own_held : HoldFlat e.payload r.disclosures → own_place_rule e.payload r.disclosures ≡ None
   unfolding reach_rule names_rule depth_rule
   own_held flat =
       held_on (reach_rule e.payload r.disclosures) _ (rule_held 10 _ (ap not flat.0))
       (held_on (names_rule e.payload r.disclosures) _
-        (held_on (rule 11 (list_any (is_mismatch r.disclosures) (all_places e.payload r.disclosures))) _ (rule_held 11 _ flat.1)
-        (held_on (rule 12 (any_clash e.payload r.disclosures)) _ (rule_held 12 _ flat.2)
-        (held_on (rule 13 (list_any (λ k. is_among k reserved) (top_names r.disclosures e.payload))) [] (rule_held 13 _ r.none_reserved) refl)))
+      (held_on (rule 11 (list_any (is_mismatch r.disclosures) (all_places e.payload r.disclosures))) _ (rule_held 11 _ flat.1)
+      (held_on (rule 12 (any_clash e.payload r.disclosures)) _ (rule_held 12 _ flat.2)
+      (held_on (rule 13 (list_any (λ k. is_among k reserved) (top_names r.disclosures e.payload))) [] (rule_held 13 _ none_kept) refl)))
       (held_on (depth_rule e.payload r.disclosures) [] (rule_held 14 _ (ap is_none spelled_is)) refl))
 
   later_held : IsSound e.payload → later_rule e.payload r.disclosures ≡ None
@@ -160,7 +168,7 @@ module _ (e : Envelope) (texts : List Utf8) (c : Credential) (r : Says e texts c
   later_held sound =
       let flat = flat_at e.payload r.disclosures r.members r.used r.hash (all_sound r.hash texts r.disclosures r.are_disclosed) sound r.names_hash r.spells r.uses_each in
       held_on (placing_rule e.payload r.disclosures) _
-          (held_on (marks_rule e.payload r.disclosures) _ marks_held (held_on (double_rule e.payload r.disclosures) _ double_held (held_on (own_place_rule e.payload r.disclosures) [] (own_held flat) refl)))
+      (held_on (marks_rule e.payload r.disclosures) _ marks_held (held_on (double_rule e.payload r.disclosures) _ double_held (held_on (own_place_rule e.payload r.disclosures) [] (own_held flat) refl)))
       (held_on (facts_rule e.payload) [] r.facts refl)
 
   inner_held : IsSound e.payload → inner_rule e texts ≡ None
@@ -178,8 +186,7 @@ module _ (e : Envelope) (texts : List Utf8) (c : Credential) (r : Says e texts c
 pub reads_computed : (text : Utf8) (c : Credential) → Reads text c → (refusal_of text ≡ None) × (credential_in text ≡ Some c)
 unfolding refusal_of credential_in
 reads_computed text c r =
-    let e = envelope_of (dot_parts r.0) in
-    (
+    let e = envelope_of (dot_parts r.0) in (
       ap refusal_of_parts r.2 ∙ ap (λ o. either_rule o (inner_rule (envelope_of (dot_parts r.0)) r.1)) r.3 ∙ ap (either_rule None) (inner_held (envelope_of (dot_parts r.0)) r.1 c r.4 (envelope_sound r.0)),
       ap (option_map (λ p. credential_of (envelope_of (dot_parts p.0)) p.1)) r.2 ∙ ap Some (says_is (envelope_of (dot_parts r.0)) r.1 c r.4),
     )
@@ -249,7 +256,7 @@ says_computed e texts sound h =
     let own = own_parts e.payload list.0 placing.2 in
     let members = none_not (spelled_payload list.0 e.payload) own.2 in
     let read : all_disclosed hash.0 texts ≡ Some list.0 = sym (ap (λ k. all_disclosed k texts) is_hash) ∙ list.1 in
-    let r = relation_at e.payload list.0 members.0 hash.0 (all_sound hash.0 texts list.0 read) sound hash.1 apart own.0 members.1 in
+    let r = relation_at e.payload list.0 members.0 hash.0 (all_sound hash.0 texts list.0 read) sound hash.1 apart own.0 own.1 members.1 in
     record {
       is_typed = front.0;
       hash = hash.0;
@@ -265,7 +272,6 @@ says_computed e texts sound h =
       used = r.0;
       spells = r.1;
       uses_each = r.2;
-      none_reserved = own.1;
       facts = facts.0;
       says = ap (λ k. credential_with e k (members_with e.payload (disclosures_of e texts))) is_hash
           ∙ ap (λ ls. credential_with e hash.0 (members_with e.payload ls)) is_list

@@ -1,13 +1,13 @@
 -- How often a digest is reached.
-use Rattle.std.proofs.Common.{◌≡◌, ◌≤◌, ℕ, zero, suc, ◌+◌, true, false, cond, List, [], ◌∷◌, ◌++◌, length, map, Option, Some, None, refl, sym, ap, ◌∙◌, arith, inl, inr, append_assoc}
+use Rattle.std.proofs.Common.{◌≡◌, ◌≤◌, ℕ, zero, suc, ◌+◌, true, false, cond, List, [], ◌∷◌, ◌++◌, map, Option, Some, None, refl, ap, ◌∙◌, arith, inl, inr}
 use Rattle.std.specs.Str.{bytes_eq}
 use Rattle.std.proofs.lemmas.Bool.{cases_Bool}
 use Rattle.std.proofs.lemmas.List.{map-append}
 use Rattle.serde_json.specs.Data.{Data}
 use Rattle.sdjwt_view.specs.Disclosures.{Utf8, differ, Disclosed, found}
-use Rattle.sdjwt_view.specs.Places.{Place, digest_at, places_in, digests_in, values_places, all_places, reached, reached_by}
+use Rattle.sdjwt_view.specs.Places.{digest_at, places_in, digests_in, values_places, all_places, reached, reached_by}
 use Rattle.sdjwt_view.specs.Relation.{times}
-use Rattle.sdjwt_view.proofs.Counting.{one, one_true, one_false, times-append, differ_times}
+use Rattle.sdjwt_view.proofs.Counting.{one_true, one_false, times-append, differ_times}
 use Rattle.sdjwt_view.proofs.FirstPlaces.{bytes_eq-flip}
 
 -- what a disclosure that is found gives
@@ -61,16 +61,16 @@ expand : (x : Utf8) (n : ℕ) (ls : List Disclosed) (d : Data) → times x (reac
 expand x zero ls d = omega (arith, reached_more x 0 ls d, by_nothing x ls (digests_in d))
 expand x (suc n) ls d =
     omega (arith, reached_more x (suc n) ls d, by-append x digests_in ls (digests_in d) (reached_by (reached n ls) ls (digests_in d)), below (expand x n ls) (digests_in d)) where
-  from_below : ((d : Data) → times x (reached (suc n) ls d) ≡ times x (digests_in d) + times x (reached_by digests_in ls (reached n ls d)))
-      → (o : Option Disclosed) → times x (from (reached (suc n) ls) o) ≡ times x (from digests_in o) + times x (reached_by digests_in ls (from (reached n ls) o))
-  from_below inner None = omega arith
-  from_below inner (Some l) = inner l.value
+      from_below : ((d : Data) → times x (reached (suc n) ls d) ≡ times x (digests_in d) + times x (reached_by digests_in ls (reached n ls d)))
+          → (o : Option Disclosed) → times x (from (reached (suc n) ls) o) ≡ times x (from digests_in o) + times x (reached_by digests_in ls (from (reached n ls) o))
+      from_below inner None = omega arith
+      from_below inner (Some l) = inner l.value
 
-  below : ((d : Data) → times x (reached (suc n) ls d) ≡ times x (digests_in d) + times x (reached_by digests_in ls (reached n ls d)))
-      → (ys : List Utf8) → times x (reached_by (reached (suc n) ls) ls ys) ≡ times x (reached_by digests_in ls ys) + times x (reached_by digests_in ls (reached_by (reached n ls) ls ys))
-  below inner [] = omega arith
-  below inner (y ∷ ys) =
-      omega (arith, by_more x (reached (suc n) ls) ls y ys, by_more x digests_in ls y ys, by-append x digests_in ls (from (reached n ls) (found y ls)) (reached_by (reached n ls) ls ys), from_below inner (found y ls), below inner ys)
+      below : ((d : Data) → times x (reached (suc n) ls d) ≡ times x (digests_in d) + times x (reached_by digests_in ls (reached n ls d)))
+          → (ys : List Utf8) → times x (reached_by (reached (suc n) ls) ls ys) ≡ times x (reached_by digests_in ls ys) + times x (reached_by digests_in ls (reached_by (reached n ls) ls ys))
+      below inner [] = omega arith
+      below inner (y ∷ ys) =
+          omega (arith, by_more x (reached (suc n) ls) ls y ys, by_more x digests_in ls y ys, by-append x digests_in ls (from (reached n ls) (found y ls)) (reached_by (reached n ls) ls ys), from_below inner (found y ls), below inner ys)
 
 abbrev pub value_digests : List Disclosed → List Utf8
 value_digests ls = map digest_at (values_places ls)
@@ -83,22 +83,22 @@ without x l ls [] h = refl
 without x l ls (y ∷ ys) h = elim (cases_Bool (bytes_eq y l.digest)) [
   | inl same ↦ absurd (omega (arith, one_true (bytes_eq y l.digest) same))
   | inr other ↦
-    let apart : bytes_eq l.digest y ≡ false = bytes_eq-flip l.digest y ∙ other in
-    let same_found : found y (l ∷ ls) ≡ found y ls = ap (λ b. cond b (Some l) (found y ls)) apart in
-    omega (arith, by_more x digests_in (l ∷ ls) y ys, by_more x digests_in ls y ys, ap (λ o. times x (from digests_in o)) same_found, without x l ls ys (omega (arith, one_false (bytes_eq y l.digest) other)))
+      let apart : bytes_eq l.digest y ≡ false = bytes_eq-flip l.digest y ∙ other in
+      let same_found : found y (l ∷ ls) ≡ found y ls = ap (λ b. cond b (Some l) (found y ls)) apart in
+      omega (arith, by_more x digests_in (l ∷ ls) y ys, by_more x digests_in ls y ys, ap (λ o. times x (from digests_in o)) same_found, without x l ls ys (omega (arith, one_false (bytes_eq y l.digest) other)))
 ]
 
 with_one : (x : Utf8) (l : Disclosed) (ls : List Disclosed) (ys : List Utf8) → times l.digest ys ≤ 1 → times x (reached_by digests_in (l ∷ ls) ys) ≤ times x (digests_in l.value) + times x (reached_by digests_in ls ys)
 with_one x l ls [] h = omega arith
 with_one x l ls (y ∷ ys) h = elim (cases_Bool (bytes_eq y l.digest)) [
   | inl same ↦
-    let here : bytes_eq l.digest y ≡ true = bytes_eq-flip l.digest y ∙ same in
-    let first_found : found y (l ∷ ls) ≡ Some l = ap (λ b. cond b (Some l) (found y ls)) here in
-    omega (arith, by_more x digests_in (l ∷ ls) y ys, by_more x digests_in ls y ys, ap (λ o. times x (from digests_in o)) first_found, without x l ls ys (omega (arith, one_true (bytes_eq y l.digest) same)))
+      let here : bytes_eq l.digest y ≡ true = bytes_eq-flip l.digest y ∙ same in
+      let first_found : found y (l ∷ ls) ≡ Some l = ap (λ b. cond b (Some l) (found y ls)) here in
+      omega (arith, by_more x digests_in (l ∷ ls) y ys, by_more x digests_in ls y ys, ap (λ o. times x (from digests_in o)) first_found, without x l ls ys (omega (arith, one_true (bytes_eq y l.digest) same)))
   | inr other ↦
-    let apart : bytes_eq l.digest y ≡ false = bytes_eq-flip l.digest y ∙ other in
-    let same_found : found y (l ∷ ls) ≡ found y ls = ap (λ b. cond b (Some l) (found y ls)) apart in
-    omega (arith, by_more x digests_in (l ∷ ls) y ys, by_more x digests_in ls y ys, ap (λ o. times x (from digests_in o)) same_found, with_one x l ls ys (omega (arith, one_false (bytes_eq y l.digest) other)))
+      let apart : bytes_eq l.digest y ≡ false = bytes_eq-flip l.digest y ∙ other in
+      let same_found : found y (l ∷ ls) ≡ found y ls = ap (λ b. cond b (Some l) (found y ls)) apart in
+      omega (arith, by_more x digests_in (l ∷ ls) y ys, by_more x digests_in ls y ys, ap (λ o. times x (from digests_in o)) same_found, with_one x l ls ys (omega (arith, one_false (bytes_eq y l.digest) other)))
 ]
 
 -- the values that digests lead to which differ are different values

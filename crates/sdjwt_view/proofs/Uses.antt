@@ -1,22 +1,21 @@
 -- Each disclosure is used once exactly where the flat tests on places hold.
-use Rattle.std.proofs.Common.{◌≡◌, ◌≤◌, ℕ, suc, ◌+◌, Bool, true, false, not, ◌&&◌, ◌||◌, cond, List, [], ◌∷◌, ◌++◌, length, map, Option, Some, None, option_and_then, refl, sym, ap, ◌∙◌, subst, arith, inl, inr}
+use Rattle.std.proofs.Common.{◌≡◌, ◌≤◌, suc, ◌+◌, Bool, true, false, not, cond, List, [], ◌∷◌, length, map, Some, refl, sym, ap, ◌∙◌, subst, arith, inl, inr}
 use Rattle.std.specs.List.{AllByRecursion, list_any, list_all}
 use Rattle.std.specs.Str.{bytes_eq}
 use Rattle.std.proofs.lemmas.Bool.{cases_Bool, and_parts, and_from, or_parts, or_from}
 use Rattle.serde_json.specs.Data.{Data, object, Members as Fields}
 use Rattle.claim_tree.specs.Parts.{Named}
 use Rattle.sdjwt_view.specs.Disclosures.{Utf8, is_among, differ, Disclosed, found}
-use Rattle.sdjwt_view.specs.Places.{Place, digest_at, places_in, places_under, digests_in, values_places, all_places, reached, are_reached, are_placed, is_mismatch, has_clash}
+use Rattle.sdjwt_view.specs.Places.{Place, digest_at, places_in, values_places, all_places, reached, are_reached, are_placed, is_mismatch, has_clash}
 use Rattle.sdjwt_view.specs.Placing.{any_clash}
 use Rattle.sdjwt_view.specs.Spelling.{left_out, spelled, spelled_members}
 use Rattle.sdjwt_view.specs.Relation.{times, Spells, SpellMembers, UsesEach}
 use Rattle.sdjwt_view.proofs.Built.{IsFine, AreFine, members_built, spells_built}
 use Rattle.sdjwt_view.proofs.Claims.{IsSound, AreSound}
-use Rattle.sdjwt_view.proofs.Computed.{members_computed, spells_computed}
-use Rattle.sdjwt_view.proofs.Counting.{one, one_true, one_false, same_text, among_from, times_some, few_used}
+use Rattle.sdjwt_view.proofs.Counting.{one_true, one_false, same_text, among_from, times_some, few_used}
 use Rattle.sdjwt_view.proofs.Fields.{LeavesTexts}
 use Rattle.sdjwt_view.proofs.FirstPlaces.{same_from, bytes_eq-flip}
-use Rattle.sdjwt_view.proofs.Fits.{IsUsed, Fits, misses, misses-append, gathered}
+use Rattle.sdjwt_view.proofs.Fits.{IsUsed, Fits, misses, misses-append}
 use Rattle.sdjwt_view.proofs.Reached.{reached_more, further, at_most_once}
 use Rattle.sdjwt_view.proofs.Walks.{members_fit, spells_fit}
 
@@ -69,8 +68,7 @@ not_true false e = refl
 pub found_own : (ls : List Disclosed) → differ (digests ls) ≡ true → AllByRecursion (λ l. found l.digest ls ≡ Some l) ls
 found_own [] h = tt
 found_own (l ∷ ls) h =
-    let both = and_parts (not (is_among l.digest (digests ls))) (differ (digests ls)) h in
-    (
+    let both = and_parts (not (is_among l.digest (digests ls))) (differ (digests ls)) h in (
       ap (λ b. cond b (Some l) (found l.digest ls)) (same_text l.digest),
       all_both (λ m. bytes_eq m.digest l.digest ≡ false) (λ m. found m.digest ls ≡ Some m) (λ m. found m.digest (l ∷ ls) ≡ Some m)
           (λ m apart there. ap (λ b. cond b (Some l) (found m.digest ls)) (bytes_eq-flip l.digest m.digest ∙ apart) ∙ there) ls (apart_from l.digest ls (not_true (is_among l.digest (digests ls)) both.0)) (found_own ls both.1),
@@ -81,9 +79,9 @@ pub found_all : (P : Disclosed → Type 0) (ls : List Disclosed) → AllByRecurs
 found_all P [] a x l e = absurd (cc)
 found_all P (m ∷ ls) a x l e = elim (cases_Bool (bytes_eq m.digest x)) [
   | inl same ↦
-    let here : Some m ≡ Some l = sym (ap (λ b. cond b (Some m) (found x ls)) same) ∙ e in
-    let is : m ≡ l = cc in
-    subst P is a.0
+      let here : Some m ≡ Some l = sym (ap (λ b. cond b (Some m) (found x ls)) same) ∙ e in
+      let is : m ≡ l = cc in
+      subst P is a.0
   | inr other ↦ found_all P ls a.1 x l (sym (ap (λ b. cond b (Some m) (found x ls)) other) ∙ e)
 ]
 
@@ -141,11 +139,10 @@ flat_from : (payload : Data) (ls : List Disclosed) (us : List Utf8) → Fits ls 
 flat_from payload ls us fit clash each =
     let own = found_own ls each.0 in
     let used = all_both (λ l. found l.digest ls ≡ Some l) (λ l. times l.digest us ≡ 1) (λ l. IsFine ls l.value)
-        (λ l e once. used_fine ls l e (used_one (IsUsed ls) us l.digest fit.are_used (omega arith))) ls own each.1 in
+    (λ l e once. used_fine ls l e (used_one (IsUsed ls) us l.digest fit.are_used (omega arith))) ls own each.1 in
     let few = few_used ls us each.1 (all_map (IsUsed ls) (λ u. 1 ≤ times u (digests ls)) (λ u is. found_times u ls is.disclosure is.is) us fit.are_used) in
     let among = all_both (λ l. found l.digest ls ≡ Some l) (λ l. times l.digest us ≡ 1) (λ l. is_among l.digest (reached (suc (length ls)) ls payload) ≡ true)
-        (λ l e once. among_from l.digest (reached (suc (length ls)) ls payload) (omega (arith, reached_more l.digest (length ls) ls payload, fit.tally l.digest l e (length ls) few))) ls own each.1 in
-    (
+    (λ l e once. among_from l.digest (reached (suc (length ls)) ls payload) (omega (arith, reached_more l.digest (length ls) ls payload, fit.tally l.digest l e (length ls) few))) ls own each.1 in (
       and_from (differ (digests ls)) (are_reached payload ls) each.0 (all_tests (λ l. is_among l.digest (reached (suc (length ls)) ls payload)) ls among),
       no_misses ls (all_places payload ls)
           (omega (arith, misses-append ls (places_in payload) (values_places ls), fit.no_miss, values_miss ls ls (all_map (λ l. IsFine ls l.value) (λ l. misses ls (places_in l.value) ≡ 0) (λ l f. f.0) ls used))),
@@ -194,5 +191,5 @@ relation_holds ls ms ns all sound texts apart flat h =
     let fit = members_fit true ls (Spells 63 ls) (spells_fit 63 ls all) all ms ns built.0 sound texts built.1 in
     let among = tests_all (λ l. is_among l.digest (reached (suc (length ls)) ls (object ms))) ls placed.1 in
     let once = all_both (λ l. found l.digest ls ≡ Some l) (λ l. is_among l.digest (reached (suc (length ls)) ls (object ms)) ≡ true) (λ l. times l.digest built.0 ≡ 1)
-        (λ l e a. once_at l.digest l (object ms) ls built.0 apart fit.0 e a) ls (found_own ls placed.0) among in
+    (λ l e a. once_at l.digest l (object ms) ls built.0 apart fit.0 e a) ls (found_own ls placed.0) among in
     (built.0, built.1, (placed.0, once))

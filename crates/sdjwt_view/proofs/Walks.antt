@@ -5,17 +5,17 @@ use Rattle.std.specs.Option.{is_some}
 use Rattle.std.specs.Str.{bytes_eq}
 use Rattle.std.specs.List.{list_any}
 use Rattle.std.proofs.lemmas.Bool.{cases_Bool, and_parts, and_left, and_right, or_from, not_from_true}
-use Rattle.serde_json.specs.Data.{Data, null, boolean, number, string, array, object, Items, no_items, item, Members as Fields, no_members as no_fields, member as field}
-use Rattle.serde_json.specs.Find.{as_str, as_object}
+use Rattle.serde_json.specs.Data.{Data, null, boolean, number, string, array, object, Items, item, Members as Fields}
+use Rattle.serde_json.specs.Find.{as_str}
 use Rattle.claim_tree.specs.Tree.{Tree, ascend, is_claim, are_claims, hold_claims, member_names, element_marks}
 use Rattle.claim_tree.specs.Plain.{plain, plain_elements, plain_members as plain_fields}
 use Rattle.claim_tree.specs.Parts.{Part, Named}
-use Rattle.sdjwt_view.specs.Disclosures.{Utf8, is_among, Disclosed, found}
-use Rattle.sdjwt_view.specs.Places.{sd, Place, in_object, in_list, placeholder, is_placeholder, own_digests, places_in, places_among, places_under, is_mismatch, disclosed_names, gets_clash, has_clash, have_clash, holds_clash}
+use Rattle.sdjwt_view.specs.Disclosures.{Utf8, Disclosed, found}
+use Rattle.sdjwt_view.specs.Places.{sd, in_object, in_list, placeholder, is_placeholder, own_digests, places_in, places_among, places_under, is_mismatch, disclosed_names, gets_clash, has_clash, have_clash, holds_clash}
 use Rattle.sdjwt_view.specs.Spelling.{left_out}
 use Rattle.sdjwt_view.specs.Relation.{Way, SpellElements, SpellPlain, SpellHeld, SpellMembers, Spells}
 use Rattle.sdjwt_view.proofs.Claims.{IsSound, AreSound, found_sound}
-use Rattle.sdjwt_view.proofs.Fields.{HasOne, LeavesTexts, has_one, sd_left, leaves_inner, plain_places}
+use Rattle.sdjwt_view.proofs.Fields.{LeavesTexts, has_one, sd_left, leaves_inner, plain_places}
 use Rattle.sdjwt_view.proofs.Fits.{Fits, fits_none, fits-append, fits_undisclosed, fits_disclosed, fits_under}
 
 -- ---- what a disclosure's kind says
@@ -49,24 +49,21 @@ elements_fit ls Inner fit all SpellElements.no_more h = (fits_none ls, refl)
 elements_fit ls Inner fit all (SpellElements.plain {d = d} {ds = ds} {t = t} {us = us} {vs = vs} e i r) h =
     let both = and_parts (is_claim (plain d)) (are_claims (plain_elements ds)) h in
     let inner = fit d t us both.0 i in
-    let rest = elements_fit ls Inner fit all r both.1 in
-    (
+    let rest = elements_fit ls Inner fit all r both.1 in (
       subst (λ ps. Fits ls ps (us ++ vs)) (sym (plain_among d ds e)) (fits-append ls (places_in d) (places_among ds) us vs inner.0 rest.0),
       or_from (not (is_placeholder d) && has_clash ls d) (have_clash ls ds) (and_right (not (is_placeholder d)) (has_clash ls d) inner.1) rest.1,
     )
 elements_fit ls Inner fit all (SpellElements.disclosed {d = d} {ds = ds} {x = x} {l = l} {t = t} {us = us} {vs = vs} e f nameless i r) h =
     let both = and_parts (is_claim (plain d)) (are_claims (plain_elements ds)) h in
     let inner = fit l.value t us (value_sound ls x l all f) i in
-    let rest = elements_fit ls Inner fit all r both.1 in
-    (
+    let rest = elements_fit ls Inner fit all r both.1 in (
       subst (λ ps. Fits ls ps (x ∷ us ++ vs)) (sym (hidden_among d ds x e))
           (fits-append ls (in_list x ∷ []) (places_among ds) (x ∷ us) vs (fits_disclosed ls (in_list x) l us f (kind_in_list ls x l f nameless) inner.1 inner.0) rest.0),
       hidden_clash ls d ds x e rest.1,
     )
 elements_fit ls Inner fit all (SpellElements.undisclosed {d = d} {ds = ds} {x = x} {vs = vs} e f r) h =
     let both = and_parts (is_claim (plain d)) (are_claims (plain_elements ds)) h in
-    let rest = elements_fit ls Inner fit all r both.1 in
-    (
+    let rest = elements_fit ls Inner fit all r both.1 in (
       subst (λ ps. Fits ls ps vs) (sym (hidden_among d ds x e)) (fits-append ls (in_list x ∷ []) (places_among ds) [] vs (fits_undisclosed ls (in_list x) f) rest.0),
       hidden_clash ls d ds x e rest.1,
     )
@@ -96,8 +93,7 @@ plain_fit : (ls : List Disclosed) (Inner : Way) → FitsAt ls Inner → (left : 
 plain_fit ls Inner fit left SpellPlain.no_more h texts = (fits_none ls, refl)
 plain_fit ls Inner fit left (SpellPlain.no_claim {k = k} {d = d} {ms = ms} {us = us} e r) h texts =
     let both = and_parts (is_claim (plain d)) (hold_claims (plain_fields ms)) h in
-    let rest = plain_fit ls Inner fit left r both.1 texts.1 in
-    (
+    let rest = plain_fit ls Inner fit left r both.1 texts.1 in (
       subst (λ b. Fits ls (cond b [] (places_in d) ++ plain_places left ms) us) (sym e) rest.0,
       or_from (not (bytes_eq k sd) && has_clash ls d) (holds_clash ls ms) (elim (cases_Bool (bytes_eq k sd)) [
         | inl here ↦ and_left (not (bytes_eq k sd)) (has_clash ls d) (not_from_true (bytes_eq k sd) here)
@@ -107,8 +103,7 @@ plain_fit ls Inner fit left (SpellPlain.no_claim {k = k} {d = d} {ms = ms} {us =
 plain_fit ls Inner fit left (SpellPlain.plain {k = k} {d = d} {ms = ms} {t = t} {us = us} {vs = vs} e i r) h texts =
     let both = and_parts (is_claim (plain d)) (hold_claims (plain_fields ms)) h in
     let inner = fit d t us both.0 i in
-    let rest = plain_fit ls Inner fit left r both.1 texts.1 in
-    (
+    let rest = plain_fit ls Inner fit left r both.1 texts.1 in (
       subst (λ b. Fits ls (cond b [] (places_in d) ++ plain_places left ms) (us ++ vs)) (sym e) (fits-append ls (places_in d) (plain_places left ms) us vs inner.0 rest.0),
       or_from (not (bytes_eq k sd) && has_clash ls d) (holds_clash ls ms) (and_right (not (bytes_eq k sd)) (has_clash ls d) inner.1) rest.1,
     )
@@ -117,12 +112,11 @@ pub members_fit : (is_payload : Bool) (ls : List Disclosed) (Inner : Way) → Fi
     → Fits ls (places_under ms) us × (has_clash ls (object ms) ≡ false)
 members_fit is_payload ls Inner fit all ms ns us h texts s =
     let both = and_parts (ascend (member_names (plain_fields ms))) (hold_claims (plain_fields ms)) h in
-    let p = plain_fit ls Inner fit (left_out is_payload) s.4 both.1 texts in
-    let q = held_fit ls Inner fit all s.5 in
-    (
+    let p = plain_fit ls Inner fit (left_out is_payload) s.spells_plain both.1 texts in
+    let q = held_fit ls Inner fit all s.spells_held in (
       fits_under ls (left_out is_payload) ms us (sd_left is_payload) (has_one sd ms both.0) texts
-          (subst (λ ws. Fits ls (plain_places (left_out is_payload) ms ++ map in_object (own_digests ms)) ws) (sym s.8) (fits-append ls (plain_places (left_out is_payload) ms) (map in_object (own_digests ms)) s.2 s.3 p.0 q)),
-      or_from (gets_clash (disclosed_names ls (own_digests ms)) ms) (holds_clash ls ms) (ap (λ ks. gets_clash ks ms) (held_names ls Inner s.5) ∙ s.6) p.1,
+          (subst (λ ws. Fits ls (plain_places (left_out is_payload) ms ++ map in_object (own_digests ms)) ws) (sym s.are_uses) (fits-append ls (plain_places (left_out is_payload) ms) (map in_object (own_digests ms)) s.plain_uses s.held_uses p.0 q)),
+      or_from (gets_clash (disclosed_names ls (own_digests ms)) ms) (holds_clash ls ms) (ap (λ ks. gets_clash ks ms) (held_names ls Inner s.spells_held) ∙ s.names_differ) p.1,
     )
 
 -- ---- values

@@ -1,6 +1,6 @@
 -- What it is for a text to be a credential, in the standard's own terms: the claim tree that a JSON value spells, case by case, and the disclosures
 -- that it uses (RFC 9901, sections 4.2, 7.1 and 7.3).
-use Rattle.std.specs.Prelude.{◌≡◌, ◌≤◌, ℕ, zero, suc, ◌+◌, Bool, true, false, List, [], ◌∷◌, ◌++◌, length, map, Option, Some, None, if◌then◌else◌}
+use Rattle.std.specs.Prelude.{◌≡◌, ◌≤◌, ℕ, zero, suc, ◌+◌, Bool, true, false, List, [], ◌∷◌, ◌++◌, length, map, Some, None, if◌then◌else◌}
 use Rattle.std.specs.List.{AllByRecursion, list_any, list_all}
 use Rattle.std.specs.Str.{bytes_eq}
 use Rattle.serde_json.specs.Data.{Data, null, boolean, number, string, array, object, Items, no_items, item, Members as Fields, no_members as no_fields, member as field}
@@ -13,18 +13,18 @@ use Rattle.claim_tree.specs.Plain.{plain_number}
 use Rattle.claim_tree.specs.Parts.{Part, Named, elements_of, members_of, put_member}
 use Rattle.sdjwt_view.specs.Disclosures.{Utf8, is_among, differ, Disclosed, all_disclosed, found}
 use Rattle.sdjwt_view.specs.Places.{placeholder, own_digests, gets_clash, digest_at, all_places, is_sound}
-use Rattle.sdjwt_view.specs.Placing.{names_mark, reserved, top_names}
+use Rattle.sdjwt_view.specs.Placing.{names_mark, reserved}
 use Rattle.sdjwt_view.specs.Spelling.{has_placeholder, left_out}
 use Rattle.sdjwt_view.specs.Reading.{Credential, pieces, parts_of, has_sd_type, named_hash, most_disclosures, credential_with}
 use Rattle.sdjwt_view.specs.Facts.{facts_rule}
 
 -- ---- what a value spells
 
--- Which value spells which tree, and uses the disclosures of these digests, each as often as it stands there, in the order of the walk.
+-- Which value spells which tree, and uses the disclosures of these digests, each as often as its digest is met, in the order of the walk.
 abbrev pub Way : Type 1
 Way = Data → Tree → List Utf8 → Type 0
 
--- The elements of a list in order (section 7.1, steps 3 c and d): a plain one is not held. A placeholder with the digest of a disclosure without a
+-- The elements of a list in order (sections 4.2.4.2 and 7.1, step 3): a plain one is not held. A placeholder with the digest of a disclosure without a
 -- name gives an element that is held and spelled by the disclosure's value. One whose digest no disclosure has gives nothing. For the digest of a
 -- disclosure with a name there is no case.
 pub data SpellElements (Inner : Way) (ls : List Disclosed) : Items → List Part → List Utf8 → Type 0 where
@@ -34,13 +34,13 @@ pub data SpellElements (Inner : Way) (ls : List Disclosed) : Items → List Part
       → SpellElements Inner ls (item d ds) ((true, t) ∷ es) (x ∷ us ++ vs)
   undisclosed : {d : Data} {ds : Items} {x : Utf8} {es : List Part} {vs : List Utf8} → placeholder d ≡ Some x → found x ls ≡ None → SpellElements Inner ls ds es vs → SpellElements Inner ls (item d ds) es vs
 
--- The members of an object as they stand: each but those that are left out, not held.
+-- The members of an object as they stand, not held: each but `_sd` and, in the payload, `_sd_alg` (section 7.1, step 3).
 pub data SpellPlain (Inner : Way) (left : List Utf8) : Fields → List Named → List Utf8 → Type 0 where
   no_more : SpellPlain Inner left no_fields [] []
   no_claim : {k : Utf8} {d : Data} {ms : Fields} {ns : List Named} {us : List Utf8} → is_among k left ≡ true → SpellPlain Inner left ms ns us → SpellPlain Inner left (field k d ms) ns us
   plain : {k : Utf8} {d : Data} {ms : Fields} {t : Tree} {ns : List Named} {us vs : List Utf8} → is_among k left ≡ false → Inner d t us → SpellPlain Inner left ms ns vs → SpellPlain Inner left (field k d ms) ((k, false, t) ∷ ns) (us ++ vs)
 
--- The members that an object gets by the digests of its `_sd`: each digest of a disclosure with a name gives a member of that name, held and spelled
+-- The members that an object gets by the digests of its `_sd` (sections 4.2.4.1 and 7.1, step 3): each digest of a disclosure with a name gives a member of that name, held and spelled
 -- by the disclosure's value. One that no disclosure has gives nothing. For the digest of a disclosure without a name there is no case.
 pub data SpellHeld (Inner : Way) (ls : List Disclosed) : List Utf8 → List Named → List Utf8 → Type 0 where
   no_more : SpellHeld Inner ls [] [] []
@@ -53,11 +53,18 @@ abbrev pub put_members : List Named → List Named → List Named
 put_members [] ns = ns
 put_members (h ∷ hs) ns = put_members hs (put_member h ns)
 
--- The members of an object: its plain ones and those that come by its digests, whose names differ from each other and from that of each member.
-abbrev pub SpellMembers : Bool → Way → List Disclosed → Fields → List Named → List Utf8 → Type 0
-SpellMembers is_payload Inner ls ms ns us =
-    (plain : List Named) × (held : List Named) × (vs : List Utf8) × (ws : List Utf8) × SpellPlain Inner (left_out is_payload) ms plain vs × SpellHeld Inner ls (own_digests ms) held ws
-    × (gets_clash (map (λ n. n.0) held) ms ≡ false) × (ns ≡ put_members held plain) × (us ≡ vs ++ ws)
+-- The members of an object: its plain ones and those that come by its digests. The names of the latter differ from each other and from that of each
+-- member.
+pub record SpellMembers (is_payload : Bool) (Inner : Way) (ls : List Disclosed) (ms : Fields) (ns : List Named) (us : List Utf8) : Type 0 where
+  pub plain : List Named
+  pub held : List Named
+  pub plain_uses : List Utf8
+  pub held_uses : List Utf8
+  pub spells_plain : SpellPlain Inner (left_out is_payload) ms plain plain_uses
+  pub spells_held : SpellHeld Inner ls (own_digests ms) held held_uses
+  pub names_differ : gets_clash (map (λ n. n.0) held) ms ≡ false
+  pub are_members : ns ≡ put_members held plain
+  pub are_uses : us ≡ plain_uses ++ held_uses
 
 -- A value with at most n lists and records inside one another. A text, a number, a truth value and null spell the like tree. A list is loose
 -- exactly where it has a placeholder.
@@ -71,9 +78,13 @@ Spells zero ls (object ms) t us = ⊥
 Spells (suc n) ls (array ds) t us = (es : List Part) × SpellElements (Spells n ls) ls ds es us × (t ≡ ListOf (has_placeholder ds) (elements_of es))
 Spells (suc n) ls (object ms) t us = (ns : List Named) × SpellMembers false (Spells n ls) ls ms ns us × (t ≡ RecordOf (members_of ns))
 
--- The payload is an object with at most 64 lists and records inside one another, itself among them.
-unfoldable pub SpellsPayload : List Disclosed → Data → List Named → List Utf8 → Type 0
-SpellsPayload ls payload ns us = (ms : Fields) × (as_object payload ≡ Some ms) × SpellMembers true (Spells 63 ls) ls ms ns us
+-- The payload is an object with at most 64 lists and records inside one another, itself among them. No member that comes by a digest has a name that
+-- is kept for what the issuer says in plain.
+pub record SpellsPayload (ls : List Disclosed) (payload : Data) (ns : List Named) (us : List Utf8) : Type 0 where
+  pub fields : Fields
+  pub is_object : as_object payload ≡ Some fields
+  pub spells : SpellMembers true (Spells 63 ls) ls fields ns us
+  pub none_reserved : list_any (λ k. is_among k reserved) (map (λ n. n.0) spells.held) ≡ false
 
 -- ---- what a text says
 
@@ -82,12 +93,12 @@ abbrev pub times : Utf8 → List Utf8 → ℕ
 times x [] = 0
 times x (u ∷ us) = (if bytes_eq u x then 1 else 0) + times x us
 
--- no two disclosures have one digest, and each is used once
+-- no two disclosures have one digest, and each is used once (section 7.1, step 5)
 abbrev pub UsesEach : List Disclosed → List Utf8 → Type 0
 UsesEach ls us = (differ (map (λ l. l.digest) ls) ≡ true) × AllByRecursion (λ l. times l.digest us ≡ 1) ls
 
 -- A signed message and the texts of disclosures: the payload spells the record of these members and uses each disclosure in exactly one place. No digest
--- stands in two places. The rules on types, forms and limits hold, and those on what the message says of itself.
+-- stands in two places (section 7.1, step 4). The rules on types, forms and limits hold, and those on what the message says of itself.
 pub record Says (e : Envelope) (texts : List Utf8) (c : Credential) : Type 0 where
   pub is_typed : has_sd_type e.header ≡ true
   pub hash : HashName
@@ -103,7 +114,6 @@ pub record Says (e : Envelope) (texts : List Utf8) (c : Credential) : Type 0 whe
   pub used : List Utf8
   pub spells : SpellsPayload disclosures e.payload members used
   pub uses_each : UsesEach disclosures used
-  pub none_reserved : list_any (λ k. is_among k reserved) (top_names disclosures e.payload) ≡ false
   pub facts : facts_rule e.payload ≡ None
   pub says : c ≡ credential_with e hash members
 
