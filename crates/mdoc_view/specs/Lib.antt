@@ -1,0 +1,12 @@
+pub mod Looks
+pub mod Issued
+pub mod Digests
+pub mod Index
+pub mod Object
+pub mod Key
+pub mod Pairs
+pub mod Items
+pub mod Prefixed
+pub mod Parts
+pub mod Refusal
+pub mod Errors

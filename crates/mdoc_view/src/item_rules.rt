@@ -1,0 +1,132 @@
+// The rules on elements and digests.
+ghost use Rattle.std.specs.Prelude.{◌≡◌, not, IfOk, map};
+ghost use Rattle.std.specs.List.{list_any, list_all};
+ghost use Rattle.cbor_core.specs.Seen.{span_of};
+ghost use Rattle.cbor_core.specs.Views.{entries_of};
+ghost use Rattle.mdoc_view.specs.Items.{digests_rule, elements_differ, lacks, deviates, any_item};
+ghost use Rattle.mdoc_view.specs.Parts.{said_signed, said_namespace};
+
+use crate::digests::Digests;
+use crate::distinct::are_distinct;
+use crate::items::{Namespace, Signed};
+use base_forms::HashName;
+use cbor_core::Item;
+use std::alloc::{AllocError, Global};
+
+/// The first that is broken of the rules that no element stands twice in its namespace, that each item has a digest, and
+/// that it is the item's own.
+#[tactic(auto, unfolding(rule_tables::specs::Rules::rule, crate::specs::Items::digests_rule))]
+pub fn digests_rule<'t>(
+    alloc: Global,
+    hash: HashName,
+    digests: Item<'t>,
+    namespaces: &[Namespace<'t>],
+) -> Result<Option<u8>, AllocError>
+    ensures { IfOk result (λ o. o ≡ digests_rule hash (entries_of (span_of digests.entry)) (map said_namespace namespaces.now)) }
+{
+    if !all_differ(alloc, namespaces)? {
+        return Ok(Some(11));
+    }
+    let digests = Digests::new(alloc, digests)?;
+    if any_lacks(&digests, namespaces) {
+        return Ok(Some(12));
+    }
+    if any_deviates(hash, &digests, namespaces) {
+        return Ok(Some(13));
+    }
+    Ok(None)
+}
+
+fn all_differ(alloc: Global, namespaces: &[Namespace]) -> Result<bool, AllocError>
+    ensures { IfOk result (λ b. b ≡ list_all elements_differ (map said_namespace namespaces.now)) }
+{
+    for namespace in namespaces {
+        if !elements_differ(alloc, namespace)? {
+            return Ok(false);
+        }
+    }
+    Ok(true)
+}
+
+fn elements_differ(alloc: Global, namespace: &Namespace) -> Result<bool, AllocError>
+    ensures { IfOk result (λ b. b ≡ elements_differ (said_namespace namespace.now)) }
+{
+    let mut elements = Vec::new(alloc);
+    for item in namespace.items.as_slice() {
+        elements.push(item.element)?;
+    }
+    are_distinct(alloc, &elements)
+}
+
+fn any_lacks<'t>(digests: &Digests<'t>, namespaces: &[Namespace<'t>]) -> bool
+    ensures { result ≡ list_any (any_item (lacks (entries_of (span_of digests.now.source)))) (map said_namespace namespaces.now) }
+{
+    for namespace in namespaces {
+        if any_item_lacks(digests, namespace) {
+            return true;
+        }
+    }
+    false
+}
+
+fn any_item_lacks<'t>(digests: &Digests<'t>, namespace: &Namespace<'t>) -> bool
+    ensures { result ≡ any_item (lacks (entries_of (span_of digests.now.source))) (said_namespace namespace.now) }
+{
+    for item in namespace.items.as_slice() {
+        if lacks(digests, namespace.name, item) {
+            return true;
+        }
+    }
+    false
+}
+
+fn lacks<'t>(digests: &Digests<'t>, name: &'t str, item: &Signed<'t>) -> bool
+    ensures { result ≡ lacks (entries_of (span_of digests.now.source)) name.now (said_signed item.now) }
+{
+    digests.find(name, item.number).is_none()
+}
+
+fn any_deviates<'t>(
+    hash: HashName,
+    digests: &Digests<'t>,
+    namespaces: &[Namespace<'t>],
+) -> bool
+    ensures { result ≡ list_any (any_item (deviates hash (entries_of (span_of digests.now.source)))) (map said_namespace namespaces.now) }
+{
+    for namespace in namespaces {
+        if any_item_deviates(hash, digests, namespace) {
+            return true;
+        }
+    }
+    false
+}
+
+fn any_item_deviates<'t>(
+    hash: HashName,
+    digests: &Digests<'t>,
+    namespace: &Namespace<'t>,
+) -> bool
+    ensures { result ≡ any_item (deviates hash (entries_of (span_of digests.now.source))) (said_namespace namespace.now) }
+{
+    for item in namespace.items.as_slice() {
+        if deviates(hash, digests, namespace.name, item) {
+            return true;
+        }
+    }
+    false
+}
+
+// The digest is over the item with its tag, as it stands in the document.
+fn deviates<'t>(
+    hash: HashName,
+    digests: &Digests<'t>,
+    name: &'t str,
+    item: &Signed<'t>,
+) -> bool
+    ensures { result ≡ deviates hash (entries_of (span_of digests.now.source)) name.now (said_signed item.now) }
+{
+    match digests.find(name, item.number) {
+        Some(digest) => digest != hash.digest(item.span).bytes(),
+        None => false,
+    }
+}
