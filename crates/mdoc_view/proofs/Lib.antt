@@ -1,0 +1,4 @@
+mod Indexes
+mod Dates
+mod Differing
+mod SeenTexts

@@ -1,8 +1,7 @@
 -- `valueDigests` of a mobile security object (ISO/IEC 18013-5, section 9.1.2.4): for each namespace the digests of its items, by their
 -- numbers.
-use Rattle.std.specs.Prelude.{ℕ, ℤ, Bool, false, ◌&&◌, List, [], ◌∷◌, Option, Some, None, is_some, if◌then◌else◌}
+use Rattle.std.specs.Prelude.{ℕ, ◌==◌, Bool, false, ◌&&◌, List, [], ◌∷◌, Option, Some, None, is_some, if◌then◌else◌}
 use Rattle.std.specs.Option.{option_map_or, option_or}
-use Rattle.std.specs.Ordering.{int_eq}
 use Rattle.std.specs.List.{list_all}
 use Rattle.std.specs.Str.{bytes_eq}
 use Rattle.cbor_core.specs.Views.{kind_of, whole_of, bytes_of, utf8_text_of, entries_of}
@@ -28,17 +27,17 @@ digests_of item = if are_digests item then Some (entries_of item) else None
 -- ---- looking one up; no key stands twice in a map that was read
 
 abbrev pub is_named : Utf8 → Span → Bool
-is_named name key = option_map_or (λ text. bytes_eq name text) (utf8_text_of key) false
+is_named name key = option_map_or (λ text. bytes_eq text name) (utf8_text_of key) false
 
-abbrev pub is_numbered : ℤ → Span → Bool
-is_numbered number key = option_map_or (λ n. int_eq number n) (natural_of key) false
+abbrev pub is_numbered : ℕ → Span → Bool
+is_numbered number key = option_map_or (λ n. n == number) (natural_of key) false
 
 -- the digest of a number
-abbrev pub digest_in : ℤ → Entries → Option (List ℕ)
+abbrev pub digest_in : ℕ → Entries → Option (List ℕ)
 digest_in number [] = None
 digest_in number (e ∷ es) = option_or (digest_in number es) (if is_numbered number e.0 then bytes_of e.1 else None)
 
 -- the digest of a number in a namespace
-abbrev pub digest_at : Utf8 → ℤ → Entries → Option (List ℕ)
+abbrev pub digest_at : Utf8 → ℕ → Entries → Option (List ℕ)
 digest_at name number [] = None
 digest_at name number (e ∷ es) = option_or (digest_at name number es) (if is_named name e.0 then digest_in number (entries_of e.1) else None)

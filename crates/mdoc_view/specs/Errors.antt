@@ -1,5 +1,5 @@
 -- What an error says of bytes.
-use Rattle.std.specs.Prelude.{◌≡◌, ℕ, Option, Some, ⊤, ⊥}
+use Rattle.std.specs.Prelude.{◌≡◌, ℕ, Option, Some, ⊤}
 use Rattle.mdoc_view.specs.Refusal.{Refusal, refused, cbor, cose}
 use Rattle.mdoc_view.specs.declared.error.Error.{Error}
 use Rattle.mdoc_view.specs.declared.error.Error.TheVariants.{Refused, Cbor, Cose, NoMemory}

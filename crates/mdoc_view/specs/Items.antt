@@ -1,5 +1,5 @@
 -- The signed items of a mobile document, `IssuerSignedItem` (ISO/IEC 18013-5, section 8.3.2.1.2.2), and their rules.
-use Rattle.std.specs.Prelude.{ℕ, ℤ, Bool, true, false, not, ◌&&◌, ◌+◌, List, [], ◌∷◌, codes, map, length, nat_lt, Option, Some, None, option_map, option_and_then, is_none, unwrap_or}
+use Rattle.std.specs.Prelude.{ℕ, Bool, true, false, not, ◌&&◌, ◌+◌, List, [], ◌∷◌, codes, map, length, nat_lt, Option, Some, None, option_map, option_and_then, is_none, unwrap_or}
 use Rattle.std.specs.Option.{option_map_or}
 use Rattle.std.specs.List.{list_any, list_all}
 use Rattle.std.specs.Str.{bytes_eq}
@@ -13,7 +13,7 @@ use Rattle.mdoc_view.specs.Digests.{digest_at}
 -- an item: its whole encoding with its tag 24, the number of its digest, its element's name and value
 pub record Signed : Type 0 where
   pub span : Span
-  pub number : ℤ
+  pub number : ℕ
   pub element : Utf8
   pub value : Span
 

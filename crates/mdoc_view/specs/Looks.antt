@@ -27,15 +27,12 @@ is_list kind.List = true
 is_list _ = false
 
 -- a whole number that is not negative
-abbrev pub is_natural : ℤ → Bool
-is_natural (pos n) = true
-is_natural (negsuc n) = false
+abbrev pub natural : ℤ → Option ℕ
+natural (pos n) = Some n
+natural (negsuc n) = None
 
-abbrev pub if_natural : ℤ → Option ℤ
-if_natural n = if is_natural n then Some n else None
-
-abbrev pub natural_of : Span → Option ℤ
-natural_of item = option_and_then if_natural (whole_of item)
+abbrev pub natural_of : Span → Option ℕ
+natural_of item = option_and_then natural (whole_of item)
 
 -- the entries of an item that is a map
 abbrev pub map_of : Span → Option Entries
@@ -46,7 +43,7 @@ map_of item = if is_map (kind_of item) then Some (entries_of item) else None
 abbrev pub text_at : Utf8 → Entries → Option Utf8
 text_at name entries = option_and_then utf8_text_of (find_in name entries)
 
-abbrev pub natural_at : Utf8 → Entries → Option ℤ
+abbrev pub natural_at : Utf8 → Entries → Option ℕ
 natural_at name entries = option_and_then natural_of (find_in name entries)
 
 abbrev pub bytes_at : Utf8 → Entries → Option (List ℕ)

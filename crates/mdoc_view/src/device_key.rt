@@ -1,5 +1,5 @@
 // The key that a document is bound to.
-ghost use Rattle.std.specs.Prelude.{◌≡◌, IfOk, option_map, string_bytes, map};
+ghost use Rattle.std.specs.Prelude.{◌≡◌, [], IfOk, option_map, string_bytes};
 ghost use Rattle.cbor_core.specs.Seen.{span_of};
 ghost use Rattle.cbor_core.specs.Views.{kind_of, entries_of};
 ghost use Rattle.mdoc_view.specs.Object.{has_wrong_key};

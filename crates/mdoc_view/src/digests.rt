@@ -1,11 +1,11 @@
 // The digests of a document's items, by namespace and number.
-ghost use Rattle.std.specs.Prelude.{◌≡◌, ℤ, IfOk, OnOk, option_map, if◌then◌else◌, None};
+ghost use Rattle.std.specs.Prelude.{◌≡◌, ℕ, IfOk, OnOk, option_map, if◌then◌else◌, None};
 ghost use Rattle.std.specs.Option.{option_or};
 ghost use Rattle.std.specs.Str.{bytes_eq};
 ghost use Rattle.cbor_core.specs.Seen.{span_of};
-ghost use Rattle.cbor_core.specs.Views.{entries_of};
+ghost use Rattle.cbor_core.specs.Views.{bytes_of, entries_of};
 ghost use Rattle.mdoc_view.specs.Looks.{Utf8};
-ghost use Rattle.mdoc_view.specs.Digests.{is_digest, is_digest_map, is_digest_space, are_digests, digest_in, digest_at};
+ghost use Rattle.mdoc_view.specs.Digests.{is_digest, is_digest_map, is_digest_space, are_digests, is_numbered, digest_in, digest_at};
 ghost use Rattle.mdoc_view.specs.Index.{look};
 
 use crate::looks::{is_map, natural};
@@ -17,8 +17,8 @@ use std::collections::BTreeMap;
 #[derive(Drop)]
 pub struct Digests<'t> {
     source: Item<'t>,
-    index: BTreeMap<(&'t str, i128), &'t [u8]>,
-    ghost indexed: { (name : Utf8) (number : ℤ) → look name number index ≡ digest_at name number (entries_of (span_of source)) },
+    index: BTreeMap<(&'t str, u64), &'t [u8]>,
+    ghost indexed: { (name : Utf8) (number : ℕ) → look name number index ≡ digest_at name number (entries_of (span_of source)) },
 }
 
 impl<'t> Digests<'t> {
@@ -31,7 +31,7 @@ impl<'t> Digests<'t> {
     }
 
     /// The digest of a number in a namespace.
-    pub fn find(&self, name: &'t str, number: i128) -> Option<&'t [u8]>
+    pub fn find(&self, name: &'t str, number: u64) -> Option<&'t [u8]>
         ensures { option_map (λ b. b.now) result ≡ digest_at name.now number (entries_of (span_of self.now.source)) }
     {
         match self.index.get(&(name, number)) {
@@ -44,8 +44,8 @@ impl<'t> Digests<'t> {
 fn index<'t>(
     alloc: Global,
     source: Item<'t>,
-) -> Result<BTreeMap<(&'t str, i128), &'t [u8]>, AllocError>
-    ensures { IfOk result (λ index. (name : Utf8) (number : ℤ) → look name number index ≡ digest_at name number (entries_of (span_of source.entry))) }
+) -> Result<BTreeMap<(&'t str, u64), &'t [u8]>, AllocError>
+    ensures { IfOk result (λ index. (name : Utf8) (number : ℕ) → look name number index ≡ digest_at name number (entries_of (span_of source.entry))) }
 {
     let mut index = BTreeMap::new(alloc);
     for (key, digests) in source.entries() {
@@ -58,21 +58,38 @@ fn index<'t>(
 
 // Puts in the digests of a namespace.
 fn add<'t>(
-    index: &mut BTreeMap<(&'t str, i128), &'t [u8]>,
+    index: &mut BTreeMap<(&'t str, u64), &'t [u8]>,
     name: &'t str,
     digests: Item<'t>,
 ) -> Result<(), AllocError>
     ensures { OnOk result
-        ((x : Utf8) (number : ℤ) → look x number index.new
-            ≡ option_or (if bytes_eq x name.now then digest_in number (entries_of (span_of digests.entry)) else None) (look x number index.old)) }
+        ((x : Utf8) (number : ℕ) → look x number index.new
+            ≡ option_or (if bytes_eq name.now x then digest_in number (entries_of (span_of digests.entry)) else None) (look x number index.old)) }
 {
     for (key, value) in digests.entries() {
-        if let Some(number) = natural(key)
-            && let Some(digest) = value.bytes()
-        {
-            index.insert((name, number), digest)?;
-        }
+        put(index, name, key, value)?;
     }
+    Ok(())
+}
+
+// Puts in the digest of a number.
+fn put<'t>(
+    index: &mut BTreeMap<(&'t str, u64), &'t [u8]>,
+    name: &'t str,
+    key: Item<'t>,
+    value: Item<'t>,
+) -> Result<(), AllocError>
+    ensures { OnOk result
+        ((x : Utf8) (number : ℕ) → look x number index.new
+            ≡ option_or (if bytes_eq name.now x then (if is_numbered number (span_of key.entry) then bytes_of (span_of value.entry) else None) else None) (look x number index.old)) }
+{
+    let Some(number) = natural(key) else {
+        return Ok(());
+    };
+    let Some(digest) = value.bytes() else {
+        return Ok(());
+    };
+    index.insert((name, number), digest)?;
     Ok(())
 }
 

@@ -18,7 +18,7 @@ const MOST_ITEMS: usize = 1_024;
 pub struct Signed<'t> {
     /// Its whole encoding, with its tag.
     pub span: &'t [u8],
-    pub number: i128,
+    pub number: u64,
     pub element: &'t str,
     pub value: Item<'t>,
 }

@@ -2,7 +2,7 @@
 ghost use Rattle.std.specs.Prelude.{◌≡◌, IfOk, option_map};
 ghost use Rattle.cbor_core.specs.Seen.{span_of};
 ghost use Rattle.cbor_core.specs.Views.{kind_of, entries_of};
-ghost use Rattle.mdoc_view.specs.Looks.{is_map, is_list, is_natural, natural_of, map_of, text_at, natural_at, bytes_at, map_at, one_map, embedded};
+ghost use Rattle.mdoc_view.specs.Looks.{is_map, is_list, natural_of, map_of, text_at, natural_at, bytes_at, map_at, one_map, embedded};
 
 use crate::error::NoMemory;
 use cbor_core::{Item, Kind, read_one};
@@ -26,19 +26,13 @@ pub fn is_list(item: Item) -> bool
     matches!(item.kind(), Kind::List)
 }
 
-fn is_natural(number: i128) -> bool
-    ensures { result ≡ is_natural number }
-{
-    number >= 0
-}
-
 /// The whole number that an item is, if it is one that is not negative.
-pub fn natural(item: Item) -> Option<i128>
+pub fn natural(item: Item) -> Option<u64>
     ensures { result ≡ natural_of (span_of item.entry) }
 {
     let number = item.whole()?;
-    if is_natural(number) {
-        Some(number)
+    if number >= 0 {
+        Some(number as u64)
     } else {
         None
     }
@@ -58,7 +52,7 @@ pub fn text_at<'t>(map: Item<'t>, name: &str) -> Option<&'t str>
 }
 
 /// The whole number from 0 under a name in a map.
-pub fn natural_at(map: Item, name: &str) -> Option<i128>
+pub fn natural_at(map: Item, name: &str) -> Option<u64>
     ensures { result ≡ natural_at name.now (entries_of (span_of map.entry)) }
 {
     natural(map.find(name)?)

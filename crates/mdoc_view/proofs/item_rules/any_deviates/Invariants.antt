@@ -7,4 +7,4 @@ use Rattle.mdoc_view.specs.Parts.{said_namespace}
 use Rattle.mdoc_view.proofs.item_rules.any_deviates.Given as goal
 
 abbrev pub invariant-loop-namespace : goal.invariant-loop-namespace
-invariant-loop-namespace l = list_any (any_item (deviates l.hash (entries_of (span_of l.digests.now.source)))) (map said_namespace (drop l.namespace-index l.namespaces)) ≡ list_any (any_item (deviates l.hash (entries_of (span_of l.digests.now.source)))) (map said_namespace l.namespaces)
+invariant-loop-namespace l = list_any (any_item (deviates l.hash (entries_of (span_of l.digests.source)))) (map said_namespace (drop l.namespace-index l.namespaces)) ≡ list_any (any_item (deviates l.hash (entries_of (span_of l.digests.source)))) (map said_namespace l.namespaces)

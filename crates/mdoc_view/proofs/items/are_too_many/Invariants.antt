@@ -8,5 +8,5 @@ abbrev pub invariant-loop-list : goal.invariant-loop-list
 invariant-loop-list l = record {
   can_next : (goal.iterator-loop-list).can_next l.list-iterator;
   is_finite : (goal.iterator-loop-list).is_finite l.list-iterator;
-  left : nat_lt l.room (item_count (entries_left l.list-iterator)) ≡ nat_lt most_items (item_count (entries_of (span_of l.in-Some.namespaces)));
+  left : nat_lt l.room (item_count (entries_left l.list-iterator)) ≡ nat_lt most_items (item_count (entries_of (span_of l.namespaces)));
 }

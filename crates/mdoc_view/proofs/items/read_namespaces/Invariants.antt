@@ -10,5 +10,5 @@ abbrev pub invariant-loop-name : goal.invariant-loop-name
 invariant-loop-name l = record {
   can_next : (goal.iterator-loop-name).can_next l.name-iterator;
   is_finite : (goal.iterator-loop-name).is_finite l.name-iterator;
-  left : prefixed (map said_namespace l.list.items) (all_namespaces (entries_left l.name-iterator)) ≡ all_namespaces (entries_of (span_of l.in-Some.namespaces));
+  left : prefixed (map said_namespace l.list.items) (all_namespaces (entries_left l.name-iterator)) ≡ all_namespaces (entries_of (span_of l.namespaces));
 }
