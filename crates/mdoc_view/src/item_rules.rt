@@ -51,11 +51,18 @@ fn all_differ(alloc: Global, namespaces: &[Namespace]) -> Result<bool, AllocErro
 fn elements_differ(alloc: Global, namespace: &Namespace) -> Result<bool, AllocError>
     ensures { IfOk result (λ b. b ≡ elements_differ (said_namespace namespace.now)) }
 {
+    let elements = elements(alloc, &namespace.items)?;
+    are_distinct(alloc, &elements)
+}
+
+fn elements<'t>(alloc: Global, items: &[Signed<'t>]) -> Result<Vec<&'t str>, AllocError>
+    ensures { IfOk result (λ v. map (λ s. s.now) v.items ≡ map (λ i. i.element) (map said_signed items.now)) }
+{
     let mut elements = Vec::new(alloc);
-    for item in namespace.items.as_slice() {
+    for item in items {
         elements.push(item.element)?;
     }
-    are_distinct(alloc, &elements)
+    Ok(elements)
 }
 
 fn any_lacks<'t>(digests: &Digests<'t>, namespaces: &[Namespace<'t>]) -> bool

@@ -34,9 +34,15 @@ pub struct Namespace<'t> {
 pub fn are_too_many(namespaces: Option<Item>) -> bool
     ensures { result ≡ nat_lt most_items (item_count (entries_in namespaces.entry)) }
 {
-    let Some(namespaces) = namespaces else {
-        return false;
-    };
+    match namespaces {
+        Some(namespaces) => do_exceed(namespaces),
+        None => false,
+    }
+}
+
+fn do_exceed(namespaces: Item) -> bool
+    ensures { result ≡ nat_lt most_items (item_count (entries_of (span_of namespaces.entry))) }
+{
     let mut room = MOST_ITEMS;
     for (_, list) in namespaces.entries() {
         match room_after(room, list) {
@@ -68,10 +74,19 @@ pub fn read_namespaces<'t>(
 ) -> Result<Option<Vec<Namespace<'t>>>, NoMemory>
     ensures { IfOk result (λ o. option_map (λ v. map said_namespace v.items) o ≡ all_namespaces (entries_in namespaces.entry)) }
 {
+    match namespaces {
+        Some(namespaces) => read_all(alloc, namespaces),
+        None => Ok(Some(Vec::new(alloc))),
+    }
+}
+
+fn read_all<'t>(
+    alloc: Global,
+    namespaces: Item<'t>,
+) -> Result<Option<Vec<Namespace<'t>>>, NoMemory>
+    ensures { IfOk result (λ o. option_map (λ v. map said_namespace v.items) o ≡ all_namespaces (entries_of (span_of namespaces.entry))) }
+{
     let mut list = Vec::new(alloc);
-    let Some(namespaces) = namespaces else {
-        return Ok(Some(list));
-    };
     for (name, items) in namespaces.entries() {
         match read_namespace(alloc, name, items)? {
             Some(namespace) => list.push(namespace)?,

@@ -5,7 +5,7 @@ use Rattle.mdoc_view.proofs.items.room_after.Given as goal
 
 abbrev pub invariant-loop : goal.invariant-loop
 invariant-loop l = record {
-  can_next : (goal.iterator'-loop).can_next l.iterator';
-  is_finite : (goal.iterator'-loop).is_finite l.iterator';
+  can_next : (goal.iterator-loop).can_next l.iterator';
+  is_finite : (goal.iterator-loop).is_finite l.iterator';
   left : l.room + length (items_left l.iterator') ≡ l.left + length (items_of (span_of l.fn.list));
 }

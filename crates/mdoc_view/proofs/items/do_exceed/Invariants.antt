@@ -2,7 +2,7 @@ use Rattle.std.proofs.Common.{◌≡◌, ◌+◌, nat_lt}
 use Rattle.cbor_core.specs.Seen.{span_of, entries_left}
 use Rattle.cbor_core.specs.Views.{entries_of}
 use Rattle.mdoc_view.specs.Items.{item_count, most_items}
-use Rattle.mdoc_view.proofs.items.are_too_many.Given as goal
+use Rattle.mdoc_view.proofs.items.do_exceed.Given as goal
 
 abbrev pub invariant-loop-list : goal.invariant-loop-list
 invariant-loop-list l = record {
