@@ -6,3 +6,6 @@ mod SortedOnce
 mod Inserting
 mod Prefixes
 mod KeyPairs
+mod PutValues
+mod ValueClaims
+mod Levels

@@ -8,5 +8,7 @@ pub mod Pairs
 pub mod Items
 pub mod Prefixed
 pub mod Parts
+pub mod Value
+pub mod Valued
 pub mod Refusal
 pub mod Errors

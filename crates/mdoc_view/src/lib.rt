@@ -10,5 +10,7 @@ mod item_rules;
 mod items;
 mod looks;
 mod object;
+mod tree;
+mod value;
 
 pub use error::{Error, NoMemory};
