@@ -9,3 +9,4 @@ mod KeyPairs
 mod PutValues
 mod ValueClaims
 mod Levels
+mod ReadSteps

@@ -10,3 +10,10 @@ IsRefusal broken (Refused n) = broken ≡ Some (refused n)
 IsRefusal broken (Cbor n) = broken ≡ Some (cbor n)
 IsRefusal broken (Cose n) = broken ≡ Some (cose n)
 IsRefusal broken NoMemory = ⊤
+
+-- the same past the issuer's signed message
+abbrev pub IsInnerRefusal : Option ℕ → Error → Type 0
+IsInnerRefusal broken (Refused n) = broken ≡ Some n
+IsInnerRefusal broken (Cbor n) = ⊥
+IsInnerRefusal broken (Cose n) = ⊥
+IsInnerRefusal broken NoMemory = ⊤

@@ -10,5 +10,9 @@ pub mod Prefixed
 pub mod Parts
 pub mod Value
 pub mod Valued
+pub mod Reading
+pub mod Credential
+pub mod Conversions
+pub mod Judged
 pub mod Refusal
 pub mod Errors

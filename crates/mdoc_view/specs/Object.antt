@@ -1,5 +1,5 @@
 -- The mobile security object (ISO/IEC 18013-5, section 9.1.2.4): what an issuer signs, and its rules.
-use Rattle.std.specs.Prelude.{ℕ, Bool, true, false, not, ◌||◌, ◌==◌, List, [], ◌∷◌, codes, Option, Some, None, option_map, option_and_then, is_none, if◌then◌else◌}
+use Rattle.std.specs.Prelude.{ℕ, suc, Bool, true, false, not, ◌||◌, ◌==◌, List, [], ◌∷◌, codes, Option, Some, None, option_map, option_and_then, is_none, if◌then◌else◌}
 use Rattle.std.specs.Option.{option_map_or}
 use Rattle.std.specs.Str.{bytes_eq}
 use Rattle.rule_tables.specs.Rules.{rule, first}
@@ -53,6 +53,10 @@ first_in o = moment_at (codes "validFrom") o.validity
 -- the last second at which it is valid
 abbrev pub last_in : Object → Option ℕ
 last_in o = moment_at (codes "validUntil") o.validity
+
+-- the first second past that
+abbrev pub past_in : Object → Option ℕ
+past_in o = option_map suc (last_in o)
 
 -- ---- the rules
 

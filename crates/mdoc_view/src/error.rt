@@ -1,4 +1,7 @@
 // Why no document is read.
+ghost use Rattle.std.specs.Prelude.{◌≡◌};
+ghost use Rattle.mdoc_view.specs.Conversions.{of_cbor, of_cose};
+
 use std::alloc::{AllocError, AllocFailed};
 
 /// Memory was wanting. Nothing else makes a call answer this.
@@ -62,5 +65,25 @@ impl From<NoMemory> for Error {
 
     fn from(_error: NoMemory) -> Error {
         Error::NoMemory
+    }
+}
+
+/// What a refusal of their CBOR is to the bytes of a document.
+pub(crate) fn cbor_error(error: cbor_core::Error) -> Error
+    ensures { result ≡ of_cbor error }
+{
+    match error {
+        cbor_core::Error::Refused(rule) => Error::Cbor(rule),
+        cbor_core::Error::NoMemory => Error::NoMemory,
+    }
+}
+
+/// What a refusal of the issuer's signed message is to a document.
+pub(crate) fn cose_error(error: cose_sign1::Error) -> Error
+    ensures { result ≡ of_cose error }
+{
+    match error {
+        cose_sign1::Error::Refused(rule) => Error::Cose(rule),
+        cose_sign1::Error::NoMemory => Error::NoMemory,
     }
 }

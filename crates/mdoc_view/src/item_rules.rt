@@ -4,19 +4,50 @@ ghost use Rattle.std.specs.List.{list_any, list_all};
 ghost use Rattle.cbor_core.specs.Seen.{span_of};
 ghost use Rattle.cbor_core.specs.Views.{entries_of};
 ghost use Rattle.mdoc_view.specs.Items.{digests_rule, elements_differ, lacks, deviates, any_item};
-ghost use Rattle.mdoc_view.specs.Parts.{said_signed, said_namespace};
+ghost use Rattle.mdoc_view.specs.Judged.{IsJudged};
+ghost use Rattle.mdoc_view.specs.Parts.{said_signed, said_namespace, said_object, entries_in};
 
 use crate::digests::Digests;
 use crate::distinct::are_distinct;
-use crate::items::{Namespace, Signed};
+use crate::error::NoMemory;
+use crate::items::{Namespace, Signed, are_too_many, read_namespaces};
+use crate::object::Object;
 use base_forms::HashName;
 use cbor_core::Item;
 use std::alloc::{AllocError, Global};
 
-/// The first that is broken of the rules that no element stands twice in its namespace, that each item has a digest, and
-/// that it is the item's own.
+/// What the namespaces say, or the first rule on signed items that is broken.
+#[derive(Drop)]
+pub enum Judged<'t> {
+    Read(Vec<Namespace<'t>>),
+    Broken(u8),
+}
+
+/// Reads the signed items of a document by its security object.
+#[tactic(auto, unfolding(rule_tables::specs::Rules::rule, crate::specs::Refusal::items_rule))]
+pub fn judge<'t>(
+    alloc: Global,
+    object: &Object<'t>,
+    namespaces: Option<Item<'t>>,
+) -> Result<Judged<'t>, NoMemory>
+    ensures { IfOk result (λ judged. IsJudged (said_object object.now) (entries_in namespaces.entry) judged) }
+{
+    if are_too_many(namespaces) {
+        return Ok(Judged::Broken(9));
+    }
+    let Some(list) = read_namespaces(alloc, namespaces)? else {
+        return Ok(Judged::Broken(10));
+    };
+    match digests_rule(alloc, object.hash(), object.digests, &list)? {
+        Some(rule) => Ok(Judged::Broken(rule)),
+        None => Ok(Judged::Read(list)),
+    }
+}
+
+// The first that is broken of the rules that no element stands twice in its namespace, that each item has a digest, and
+// that it is the item's own.
 #[tactic(auto, unfolding(rule_tables::specs::Rules::rule, crate::specs::Items::digests_rule))]
-pub fn digests_rule<'t>(
+fn digests_rule<'t>(
     alloc: Global,
     hash: HashName,
     digests: Item<'t>,

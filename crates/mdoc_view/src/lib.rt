@@ -1,6 +1,7 @@
 //! Mobile documents of ISO/IEC 18013-5 as claim trees that are looked at in place.
 #![tactic(auto)]
 
+mod credential;
 mod device_key;
 mod digests;
 mod distinct;
@@ -9,8 +10,12 @@ mod issued;
 mod item_rules;
 mod items;
 mod looks;
+mod node;
 mod object;
+mod reader;
 mod tree;
 mod value;
 
+pub use credential::MdCredential;
 pub use error::{Error, NoMemory};
+pub use node::MdNode;

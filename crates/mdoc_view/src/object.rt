@@ -3,7 +3,8 @@ ghost use Rattle.std.specs.Prelude.{◌≡◌, IfOk, option_map};
 ghost use Rattle.cbor_core.specs.Seen.{span_of};
 ghost use Rattle.cbor_core.specs.Views.{entries_of};
 ghost use Rattle.base_forms.specs.Tdate.{tdate_of};
-ghost use Rattle.mdoc_view.specs.Object.{object_in, object_by, object_rule, sole_embedded, first_in, last_in, moment_of, moment_at, has_version};
+ghost use Rattle.mdoc_view.specs.Object.{object_in, object_by, object_rule, sole_embedded, first_in, last_in, past_in, moment_of, moment_at, has_version};
+ghost use Rattle.mdoc_view.specs.Refusal.{hash_of};
 ghost use Rattle.mdoc_view.specs.Parts.{said_object};
 
 use crate::device_key::has_wrong_key;
@@ -63,6 +64,13 @@ impl<'t> Object<'t> {
         })
     }
 
+    /// The hash that the digests are made by.
+    pub fn hash(&self) -> HashName
+        ensures { result ≡ hash_of (said_object self.now) }
+    {
+        HashName::from_mso(self.algorithm).unwrap_or(HashName::Sha256)
+    }
+
     /// The first of the rules on version, hash, dates and the device's key that is broken.
     #[tactic(auto, unfolding(rule_tables::specs::Rules::rule, crate::specs::Object::object_rule))]
     pub fn rule(&self) -> Option<u8>
@@ -88,8 +96,16 @@ impl<'t> Object<'t> {
         moment_at(self.validity, "validFrom")
     }
 
-    /// The last second at which it is valid.
-    pub fn last(&self) -> Option<u64>
+    /// The first second at which it is valid no more.
+    pub fn past(&self) -> Option<u64>
+        ensures { result ≡ past_in (said_object self.now) }
+    {
+        let last = self.last()?;
+        Some(last + 1)
+    }
+
+    // The last second at which it is valid.
+    fn last(&self) -> Option<u64>
         ensures { result ≡ last_in (said_object self.now) }
     {
         moment_at(self.validity, "validUntil")
