@@ -2,7 +2,7 @@
 
 ghost use Rattle.cbor_core.specs.Head.{Gives};
 ghost use Rattle.cbor_core.specs.Item.{item_at};
-ghost use Rattle.std.specs.Prelude.{◌≡◌, ◌≤◌, ◌<◌, ◌^◌, length, IfOk, IsTrue, MatchOption, option_map, None, ℕ, List};
+ghost use Rattle.std.specs.Prelude.{◌≡◌, ◌≤◌, ◌<◌, ◌^◌, ◌-◌, ◌≤ℤ◌, ◌<ℤ◌, pos, negsuc, length, IfOk, IfSome, IsTrue, MatchOption, option_map, None, ℕ, List};
 ghost use Rattle.std.specs.Option.{option_copied};
 ghost use Rattle.std.specs.Iterator.{YieldsFirstBy, item_count};
 ghost use Rattle.cbor_core.specs.Views.{is_item, items_in, whole_of, bytes_of, text_of, tag_of, truth_of, kind_of, elements_of, items_of, pairs_of, entries_of, pair_up, find_in, inside_of, before, before_break, if_utf8, utf8_text_of};
@@ -66,7 +66,8 @@ impl<'a> Item<'a> {
     /// The whole number that the item is, if it is one: from -2^64 to 2^64 - 1.
     #[tactic(auto, unfolding(crate::specs::Views::whole_of))]
     pub fn whole(self) -> Option<i128>
-        ensures { result ≡ whole_of (span_of self.entry) }
+        ensures said { result ≡ whole_of (span_of self.entry) }
+        ensures range { IfSome result (λ n. (negsuc (2 ^ 64 - 1) ≤ℤ n) × (n <ℤ pos (2 ^ 64))) }
     {
         let Ok((head, _)) = head_at(self.bytes) else {
             return None;

@@ -1,0 +1,12 @@
+mod Indexes
+mod Dates
+mod Differing
+mod SeenTexts
+mod SortedOnce
+mod Inserting
+mod Prefixes
+mod KeyPairs
+mod PutValues
+mod ValueClaims
+mod Levels
+mod ReadSteps

@@ -1,0 +1,14 @@
+use Rattle.std.proofs.Common.{◌≡◌, map}
+use Rattle.cbor_core.specs.Seen.{span_of, items_left}
+use Rattle.cbor_core.specs.Views.{items_of}
+use Rattle.mdoc_view.specs.Items.{all_signed}
+use Rattle.mdoc_view.specs.Parts.{said_signed}
+use Rattle.mdoc_view.specs.Prefixed.{prefixed}
+use Rattle.mdoc_view.proofs.items.read_items.Given as goal
+
+abbrev pub invariant-loop-item : goal.invariant-loop-item
+invariant-loop-item l = record {
+  can_next : (goal.iterator-loop-item).can_next l.item-iterator;
+  is_finite : (goal.iterator-loop-item).is_finite l.item-iterator;
+  left : prefixed (map said_signed l.list.items) (all_signed (items_left l.item-iterator)) ≡ all_signed (items_of (span_of l.fn.items));
+}

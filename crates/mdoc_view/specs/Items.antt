@@ -1,0 +1,85 @@
+-- The signed items of a mobile document, `IssuerSignedItem` (ISO/IEC 18013-5, section 8.3.2.1.2.2), and their rules.
+use Rattle.std.specs.Prelude.{ℕ, Bool, true, false, not, ◌&&◌, ◌+◌, List, [], ◌∷◌, codes, map, length, nat_lt, Option, Some, None, option_map, option_and_then, is_none, unwrap_or}
+use Rattle.std.specs.Option.{option_map_or}
+use Rattle.std.specs.List.{list_any, list_all}
+use Rattle.std.specs.Str.{bytes_eq}
+use Rattle.rule_tables.specs.Rules.{rule, first}
+use Rattle.base_forms.specs.Hash.{digest_by}
+use Rattle.base_forms.specs.declared.hash.HashName.{HashName}
+use Rattle.cbor_core.specs.Views.{utf8_text_of, items_of, find_in}
+use Rattle.mdoc_view.specs.Looks.{Span, Utf8, Entries, text_at, natural_at, bytes_at, one_map, embedded}
+use Rattle.mdoc_view.specs.Digests.{digest_at}
+
+-- an item: its whole encoding with its tag 24, the number of its digest, its element's name and value
+pub record Signed : Type 0 where
+  pub span : Span
+  pub number : ℕ
+  pub element : Utf8
+  pub value : Span
+
+pub record Namespace : Type 0 where
+  pub name : Utf8
+  pub items : List Signed
+
+-- ---- the form
+
+abbrev pub signed_by : Span → Entries → Option Signed
+signed_by span entries = option_and_then (λ number. option_and_then (λ random. option_and_then (λ element. option_map (λ value. record { span = span; number = number; element = element; value = value })
+    (find_in (codes "elementValue") entries)) (text_at (codes "elementIdentifier") entries)) (bytes_at (codes "random") entries)) (natural_at (codes "digestID") entries)
+
+-- what an item of the form says
+abbrev pub signed_in : Span → Option Signed
+signed_in span = option_and_then (signed_by span) (option_and_then one_map (embedded span))
+
+abbrev pub all_signed : List Span → Option (List Signed)
+all_signed [] = Some []
+all_signed (i ∷ is) = option_and_then (λ x. option_map (λ xs. x ∷ xs) (all_signed is)) (signed_in i)
+
+abbrev pub namespace_in : Span × Span → Option Namespace
+namespace_in e = option_and_then (λ name. option_map (λ items. record { name = name; items = items }) (all_signed (items_of e.1))) (utf8_text_of e.0)
+
+-- what the namespaces say, or none where one of their items is not of the form
+abbrev pub all_namespaces : Entries → Option (List Namespace)
+all_namespaces [] = Some []
+all_namespaces (e ∷ es) = option_and_then (λ x. option_map (λ xs. x ∷ xs) (all_namespaces es)) (namespace_in e)
+
+-- ---- the rules
+
+abbrev pub most_items : ℕ
+most_items = 1_024
+
+-- how many items all namespaces have
+abbrev pub item_count : Entries → ℕ
+item_count [] = 0
+item_count (e ∷ es) = length (items_of e.1) + item_count es
+
+-- whether a text is among some
+abbrev pub is_among : Utf8 → List Utf8 → Bool
+is_among x xs = list_any (λ y. bytes_eq y x) xs
+
+-- no text stands twice
+abbrev pub differ : List Utf8 → Bool
+differ [] = true
+differ (x ∷ xs) = not (is_among x xs) && differ xs
+
+abbrev pub elements_differ : Namespace → Bool
+elements_differ n = differ (map (λ i. i.element) n.items)
+
+-- an item has no digest
+abbrev pub lacks : Entries → Utf8 → Signed → Bool
+lacks digests name i = is_none (digest_at name i.number digests)
+
+-- an item has another digest than its own
+abbrev pub deviates : HashName → Entries → Utf8 → Signed → Bool
+deviates hash digests name i = option_map_or (λ d. not (bytes_eq d (digest_by hash i.span))) (digest_at name i.number digests) false
+
+abbrev pub any_item : (Utf8 → Signed → Bool) → Namespace → Bool
+any_item test n = list_any (test n.name) n.items
+
+-- rules 11 to 13: an element twice in its namespace, no digest, another digest
+unfoldable pub digests_rule : HashName → Entries → List Namespace → Option ℕ
+digests_rule hash digests ns = first
+    (rule 11 (not (list_all elements_differ ns))
+    ∷ rule 12 (list_any (any_item (lacks digests)) ns)
+    ∷ rule 13 (list_any (any_item (deviates hash digests)) ns)
+    ∷ [])

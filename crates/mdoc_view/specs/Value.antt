@@ -1,0 +1,87 @@
+-- The claim tree of a mobile document: its namespaces, in each its elements, and the value of each (ISO/IEC 18013-5, section 8.3.2.1.2.2).
+use Rattle.std.specs.Prelude.{ℕ, zero, suc, Bool, true, false, List, [], ◌∷◌, map, Option, Some, option_and_then}
+use Rattle.std.specs.Option.{option_map_or}
+use Rattle.std.specs.Ordering.{nat_cmp}
+use Rattle.std.specs.Cmp.Lexicographic.{slice_cmp}
+use Rattle.std.specs.BTreeMap.{insert_entry}
+use Rattle.claim_tree.specs.Tree.{Tree, Text, Whole, Truth, Null, Bytes, Other, ListOf, RecordOf}
+use Rattle.claim_tree.specs.Parts.{Part, Named, elements_of, members_of}
+use Rattle.cbor_core.specs.declared.kind.Kind.{Kind}
+use Rattle.cbor_core.specs.declared.kind.Kind.TheVariants as kind
+use Rattle.cbor_core.specs.Views.{kind_of, whole_of, bytes_of, utf8_text_of, truth_of, tag_of, items_of, entries_of}
+use Rattle.mdoc_view.specs.Looks.{Span, Utf8, Entries}
+use Rattle.mdoc_view.specs.Items.{Signed, Namespace}
+
+-- ---- records
+
+-- a name with its tree
+abbrev pub Valued : Type 0
+Valued = Utf8 × Tree
+
+-- one more, in its place by the bytes of its name
+abbrev pub put_value : Utf8 → Tree → List Valued → List Valued
+put_value name tree ms = insert_entry (slice_cmp nat_cmp) ms name tree
+
+abbrev pub marked : Bool → List Valued → List Named
+marked held ms = map (λ m. (m.0, held, m.1)) ms
+
+abbrev pub record_of : Bool → List Valued → Tree
+record_of held ms = RecordOf (members_of (marked held ms))
+
+-- ---- the tree of an item
+
+-- the values of a map, put to those that are there, or none where a key is no text
+abbrev pub named_values : (Span → Tree) → Entries → List Valued → Option (List Valued)
+named_values inner [] ms = Some ms
+named_values inner (e ∷ es) ms = option_and_then (λ name. named_values inner es (put_value name (inner e.1) ms)) (utf8_text_of e.0)
+
+-- a map whose keys are all texts, nothing of it held
+abbrev pub map_tree : (Span → Tree) → Span → Tree
+map_tree inner item = option_map_or (record_of false) (named_values inner (entries_of item) []) Other
+
+abbrev pub plain_parts : (Span → Tree) → List Span → List Part
+plain_parts inner is = map (λ i. (false, inner i)) is
+
+-- a list that is not loose, nothing of it held
+abbrev pub list_tree : (Span → Tree) → Span → Tree
+list_tree inner item = ListOf false (elements_of (plain_parts inner (items_of item)))
+
+-- the content of a tag
+abbrev pub content_tree : (Span → Tree) → Span → Tree
+content_tree inner item = option_map_or (λ t. inner t.1) (tag_of item) Other
+
+abbrev pub tree_by : (Span → Tree) → Kind → Span → Tree
+tree_by inner kind.Whole item = option_map_or Whole (whole_of item) Other
+tree_by inner kind.Bytes item = option_map_or Bytes (bytes_of item) Other
+tree_by inner kind.Text item = option_map_or Text (utf8_text_of item) Other
+tree_by inner kind.List item = list_tree inner item
+tree_by inner kind.Map item = map_tree inner item
+tree_by inner kind.Tag item = content_tree inner item
+tree_by inner kind.Truth item = option_map_or Truth (truth_of item) Other
+tree_by inner kind.Null item = Null
+tree_by inner kind.Other item = Other
+
+-- an item's tree, as far as n items inside one another
+unfoldable pub value_at : ℕ → Span → Tree
+value_at zero item = Other
+value_at (suc n) item = tree_by (value_at n) (kind_of item) item
+
+-- The tree of an element's value. It lies in a map of at most 32 levels, so that no part of it is further down.
+abbrev pub value_of : Span → Tree
+value_of item = value_at 32 item
+
+-- ---- the tree of a document: each namespace and each element is held
+
+abbrev pub element_values : List Signed → List Valued → List Valued
+element_values [] ms = ms
+element_values (i ∷ is) ms = element_values is (put_value i.element (value_of i.value) ms)
+
+abbrev pub namespace_tree : Namespace → Tree
+namespace_tree n = record_of true (element_values n.items [])
+
+abbrev pub namespace_values : List Namespace → List Valued → List Valued
+namespace_values [] ms = ms
+namespace_values (n ∷ ns) ms = namespace_values ns (put_value n.name (namespace_tree n) ms)
+
+unfoldable pub document_tree : List Namespace → Tree
+document_tree ns = record_of true (namespace_values ns [])

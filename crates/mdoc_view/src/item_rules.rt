@@ -1,0 +1,170 @@
+// The rules on elements and digests.
+ghost use Rattle.std.specs.Prelude.{◌≡◌, not, IfOk, map};
+ghost use Rattle.std.specs.List.{list_any, list_all};
+ghost use Rattle.cbor_core.specs.Seen.{span_of};
+ghost use Rattle.cbor_core.specs.Views.{entries_of};
+ghost use Rattle.mdoc_view.specs.Items.{digests_rule, elements_differ, lacks, deviates, any_item};
+ghost use Rattle.mdoc_view.specs.Judged.{IsJudged};
+ghost use Rattle.mdoc_view.specs.Parts.{said_signed, said_namespace, said_object, entries_in};
+
+use crate::digests::Digests;
+use crate::distinct::are_distinct;
+use crate::error::NoMemory;
+use crate::items::{Namespace, Signed, are_too_many, read_namespaces};
+use crate::object::Object;
+use base_forms::HashName;
+use cbor_core::Item;
+use std::alloc::{AllocError, Global};
+
+/// What the namespaces say, or the first rule on signed items that is broken.
+#[derive(Drop)]
+pub enum Judged<'t> {
+    Read(Vec<Namespace<'t>>),
+    Broken(u8),
+}
+
+/// Reads the signed items of a document by its security object.
+#[tactic(auto, unfolding(rule_tables::specs::Rules::rule, crate::specs::Refusal::items_rule))]
+pub fn judge<'t>(
+    alloc: Global,
+    object: &Object<'t>,
+    namespaces: Option<Item<'t>>,
+) -> Result<Judged<'t>, NoMemory>
+    ensures { IfOk result (λ judged. IsJudged (said_object object.now) (entries_in namespaces.entry) judged) }
+{
+    if are_too_many(namespaces) {
+        return Ok(Judged::Broken(9));
+    }
+    let Some(list) = read_namespaces(alloc, namespaces)? else {
+        return Ok(Judged::Broken(10));
+    };
+    match digests_rule(alloc, object.hash(), object.digests, &list)? {
+        Some(rule) => Ok(Judged::Broken(rule)),
+        None => Ok(Judged::Read(list)),
+    }
+}
+
+// The first that is broken of the rules that no element stands twice in its namespace, that each item has a digest, and
+// that it is the item's own.
+#[tactic(auto, unfolding(rule_tables::specs::Rules::rule, crate::specs::Items::digests_rule))]
+fn digests_rule<'t>(
+    alloc: Global,
+    hash: HashName,
+    digests: Item<'t>,
+    namespaces: &[Namespace<'t>],
+) -> Result<Option<u8>, AllocError>
+    ensures { IfOk result (λ o. o ≡ digests_rule hash (entries_of (span_of digests.entry)) (map said_namespace namespaces.now)) }
+{
+    if !all_differ(alloc, namespaces)? {
+        return Ok(Some(11));
+    }
+    let digests = Digests::new(alloc, digests)?;
+    if any_lacks(&digests, namespaces) {
+        return Ok(Some(12));
+    }
+    if any_deviates(hash, &digests, namespaces) {
+        return Ok(Some(13));
+    }
+    Ok(None)
+}
+
+fn all_differ(alloc: Global, namespaces: &[Namespace]) -> Result<bool, AllocError>
+    ensures { IfOk result (λ b. b ≡ list_all elements_differ (map said_namespace namespaces.now)) }
+{
+    for namespace in namespaces {
+        if !elements_differ(alloc, namespace)? {
+            return Ok(false);
+        }
+    }
+    Ok(true)
+}
+
+fn elements_differ(alloc: Global, namespace: &Namespace) -> Result<bool, AllocError>
+    ensures { IfOk result (λ b. b ≡ elements_differ (said_namespace namespace.now)) }
+{
+    let elements = elements(alloc, &namespace.items)?;
+    are_distinct(alloc, &elements)
+}
+
+fn elements<'t>(alloc: Global, items: &[Signed<'t>]) -> Result<Vec<&'t str>, AllocError>
+    ensures { IfOk result (λ v. map (λ s. s.now) v.items ≡ map (λ i. i.element) (map said_signed items.now)) }
+{
+    let mut elements = Vec::new(alloc);
+    for item in items {
+        elements.push(item.element)?;
+    }
+    Ok(elements)
+}
+
+fn any_lacks<'t>(digests: &Digests<'t>, namespaces: &[Namespace<'t>]) -> bool
+    ensures { result ≡ list_any (any_item (lacks (entries_of (span_of digests.now.source)))) (map said_namespace namespaces.now) }
+{
+    for namespace in namespaces {
+        if any_item_lacks(digests, namespace) {
+            return true;
+        }
+    }
+    false
+}
+
+fn any_item_lacks<'t>(digests: &Digests<'t>, namespace: &Namespace<'t>) -> bool
+    ensures { result ≡ any_item (lacks (entries_of (span_of digests.now.source))) (said_namespace namespace.now) }
+{
+    for item in namespace.items.as_slice() {
+        if lacks(digests, namespace.name, item) {
+            return true;
+        }
+    }
+    false
+}
+
+fn lacks<'t>(digests: &Digests<'t>, name: &'t str, item: &Signed<'t>) -> bool
+    ensures { result ≡ lacks (entries_of (span_of digests.now.source)) name.now (said_signed item.now) }
+{
+    digests.find(name, item.number).is_none()
+}
+
+fn any_deviates<'t>(
+    hash: HashName,
+    digests: &Digests<'t>,
+    namespaces: &[Namespace<'t>],
+) -> bool
+    ensures { result ≡ list_any (any_item (deviates hash (entries_of (span_of digests.now.source)))) (map said_namespace namespaces.now) }
+{
+    for namespace in namespaces {
+        if any_item_deviates(hash, digests, namespace) {
+            return true;
+        }
+    }
+    false
+}
+
+fn any_item_deviates<'t>(
+    hash: HashName,
+    digests: &Digests<'t>,
+    namespace: &Namespace<'t>,
+) -> bool
+    ensures { result ≡ any_item (deviates hash (entries_of (span_of digests.now.source))) (said_namespace namespace.now) }
+{
+    for item in namespace.items.as_slice() {
+        if deviates(hash, digests, namespace.name, item) {
+            return true;
+        }
+    }
+    false
+}
+
+// The digest is over the item with its tag, as it stands in the document.
+fn deviates<'t>(
+    hash: HashName,
+    digests: &Digests<'t>,
+    name: &'t str,
+    item: &Signed<'t>,
+) -> bool
+    ensures { result ≡ deviates hash (entries_of (span_of digests.now.source)) name.now (said_signed item.now) }
+{
+    match digests.find(name, item.number) {
+        Some(digest) => digest != hash.digest(item.span).bytes(),
+        None => false,
+    }
+}

@@ -1,0 +1,35 @@
+// The claim tree of a document.
+ghost use Rattle.std.specs.Prelude.{◌≡◌, IfOk, map};
+ghost use Rattle.claim_tree.specs.Owned.{tree_of};
+ghost use Rattle.mdoc_view.specs.Value.{document_tree, namespace_tree};
+ghost use Rattle.mdoc_view.specs.Parts.{said_namespace};
+
+use crate::items::Namespace;
+use crate::value::{put, record, value_tree};
+use claim_tree::OwnedTree;
+use std::alloc::{AllocError, Global};
+use std::collections::BTreeMap;
+
+/// The tree of a document's namespaces, in which each of them and each element is held.
+#[tactic(auto, unfolding(crate::specs::Value::document_tree))]
+pub fn document_tree(alloc: Global, namespaces: &[Namespace]) -> Result<OwnedTree, AllocError>
+    ensures { IfOk result (λ t. tree_of t ≡ document_tree (map said_namespace namespaces.now)) }
+{
+    let mut members = BTreeMap::new(alloc);
+    for namespace in namespaces {
+        let tree = namespace_tree(alloc, namespace)?;
+        put(&mut members, namespace.name, tree)?;
+    }
+    record(alloc, true, members)
+}
+
+fn namespace_tree(alloc: Global, namespace: &Namespace) -> Result<OwnedTree, AllocError>
+    ensures { IfOk result (λ t. tree_of t ≡ namespace_tree (said_namespace namespace.now)) }
+{
+    let mut members = BTreeMap::new(alloc);
+    for item in namespace.items.as_slice() {
+        let tree = value_tree(alloc, item.value)?;
+        put(&mut members, item.element, tree)?;
+    }
+    record(alloc, true, members)
+}

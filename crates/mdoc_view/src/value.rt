@@ -1,0 +1,148 @@
+// The claim tree of an item.
+ghost use Rattle.std.specs.Prelude.{◌≡◌, IfOk, OnOk, map};
+ghost use Rattle.claim_tree.specs.Tree.{Text, Whole, Truth, Bytes, Other};
+ghost use Rattle.std.specs.Option.{option_map_or};
+ghost use Rattle.claim_tree.specs.Owned.{tree_of};
+ghost use Rattle.cbor_core.specs.Seen.{span_of};
+ghost use Rattle.cbor_core.specs.Views.{whole_of, bytes_of, utf8_text_of, truth_of};
+ghost use Rattle.mdoc_view.specs.Value.{record_of, put_value, map_tree, list_tree, content_tree, value_at, value_of};
+ghost use Rattle.mdoc_view.specs.Valued.{valued};
+
+use cbor_core::{Item, Kind};
+use claim_tree::{OwnedElement, OwnedMember, OwnedTree};
+use std::alloc::{AllocError, Global};
+use std::collections::BTreeMap;
+
+/// How many items may lie inside one another in an element's value, which lies in the map of its signed item.
+const LEVELS: usize = 32;
+
+/// The tree of an element's value.
+pub fn value_tree(alloc: Global, item: Item) -> Result<OwnedTree, AllocError>
+    ensures { IfOk result (λ t. tree_of t ≡ value_of (span_of item.entry)) }
+{
+    tree_at(alloc, LEVELS, item)
+}
+
+/// The record of some named trees, each of them held or none.
+pub fn record(
+    alloc: Global,
+    held: bool,
+    members: BTreeMap<&str, OwnedTree>,
+) -> Result<OwnedTree, AllocError>
+    ensures { IfOk result (λ t. tree_of t ≡ record_of held (valued members.entry.entries)) }
+{
+    let mut list = Vec::new(alloc);
+    for (name, tree) in members {
+        let name = String::from_str(alloc, name)?;
+        list.push(OwnedMember { name, held, tree })?;
+    }
+    Ok(OwnedTree::Record(list))
+}
+
+/// Puts a named tree to others.
+#[tactic(auto, using(crate::proofs::PutValues::put_valued))]
+pub fn put<'k>(
+    members: &mut BTreeMap<&'k str, OwnedTree>,
+    name: &'k str,
+    tree: OwnedTree,
+) -> Result<(), AllocError>
+    ensures { OnOk result (valued members.new.entries ≡ put_value name.now (tree_of tree) (valued members.old.entries)) }
+{
+    members.insert(name, tree)?;
+    Ok(())
+}
+
+#[cycle(tree)]
+#[tactic(auto, unfolding(crate::specs::Value::value_at))]
+fn tree_at(alloc: Global, levels: usize, item: Item) -> Result<OwnedTree, AllocError>
+    ensures { IfOk result (λ t. tree_of t ≡ value_at levels (span_of item.entry)) }
+{
+    if levels == 0 {
+        return Ok(OwnedTree::Other);
+    }
+    match item.kind() {
+        Kind::Whole => Ok(whole_tree(item)),
+        Kind::Bytes => bytes_tree(alloc, item),
+        Kind::Text => text_tree(alloc, item),
+        Kind::List => list_tree(alloc, levels - 1, item),
+        Kind::Map => map_tree(alloc, levels - 1, item),
+        Kind::Tag => content_tree(alloc, levels - 1, item),
+        Kind::Truth => Ok(truth_tree(item)),
+        Kind::Null => Ok(OwnedTree::Null),
+        Kind::Other => Ok(OwnedTree::Other),
+    }
+}
+
+#[cycle(tree)]
+fn list_tree(alloc: Global, levels: usize, item: Item) -> Result<OwnedTree, AllocError>
+    ensures { IfOk result (λ t. tree_of t ≡ list_tree (value_at levels) (span_of item.entry)) }
+{
+    let mut elements = Vec::new(alloc);
+    for element in item.items() {
+        let tree = tree_at(alloc, levels, element)?;
+        elements.push(OwnedElement { held: false, tree })?;
+    }
+    Ok(OwnedTree::List(false, elements))
+}
+
+#[cycle(tree)]
+fn map_tree(alloc: Global, levels: usize, item: Item) -> Result<OwnedTree, AllocError>
+    ensures { IfOk result (λ t. tree_of t ≡ map_tree (value_at levels) (span_of item.entry)) }
+{
+    let mut members = BTreeMap::new(alloc);
+    for (key, value) in item.entries() {
+        let Some(name) = key.text() else {
+            return Ok(OwnedTree::Other);
+        };
+        let tree = tree_at(alloc, levels, value)?;
+        put(&mut members, name, tree)?;
+    }
+    record(alloc, false, members)
+}
+
+// The tree of what a tag stands on.
+#[cycle(tree)]
+fn content_tree(alloc: Global, levels: usize, item: Item) -> Result<OwnedTree, AllocError>
+    ensures { IfOk result (λ t. tree_of t ≡ content_tree (value_at levels) (span_of item.entry)) }
+{
+    match item.tag() {
+        Some((_, content)) => tree_at(alloc, levels, content),
+        None => Ok(OwnedTree::Other),
+    }
+}
+
+fn whole_tree(item: Item) -> OwnedTree
+    ensures { tree_of result ≡ option_map_or Whole (whole_of (span_of item.entry)) Other }
+{
+    match item.whole() {
+        Some(number) => OwnedTree::Whole(number),
+        None => OwnedTree::Other,
+    }
+}
+
+fn truth_tree(item: Item) -> OwnedTree
+    ensures { tree_of result ≡ option_map_or Truth (truth_of (span_of item.entry)) Other }
+{
+    match item.truth() {
+        Some(truth) => OwnedTree::Truth(truth),
+        None => OwnedTree::Other,
+    }
+}
+
+fn bytes_tree(alloc: Global, item: Item) -> Result<OwnedTree, AllocError>
+    ensures { IfOk result (λ t. tree_of t ≡ option_map_or Bytes (bytes_of (span_of item.entry)) Other) }
+{
+    match item.bytes() {
+        Some(bytes) => Ok(OwnedTree::Bytes(Vec::from_slice(alloc, bytes)?)),
+        None => Ok(OwnedTree::Other),
+    }
+}
+
+fn text_tree(alloc: Global, item: Item) -> Result<OwnedTree, AllocError>
+    ensures { IfOk result (λ t. tree_of t ≡ option_map_or Text (utf8_text_of (span_of item.entry)) Other) }
+{
+    match item.text() {
+        Some(text) => Ok(OwnedTree::Text(String::from_str(alloc, text)?)),
+        None => Ok(OwnedTree::Other),
+    }
+}
