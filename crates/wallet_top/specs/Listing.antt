@@ -13,7 +13,10 @@ use Rattle.claim_tree.specs.Tree.{Tree}
 use Rattle.claim_tree.specs.declared.facts.Format.{Format}
 use Rattle.claim_tree.specs.declared.facts.Format.TheVariants.{SdJwt, Mdoc}
 use Rattle.dcql_query.specs.Query.{Credential}
+use Rattle.base_forms.specs.Url64.{url64_bytes}
 use Rattle.sdjwt_view.specs.Reading as sd
+use Rattle.mdoc_view.specs.Refusal as md
+use Rattle.mdoc_view.specs.Reading as mdoc
 use Rattle.wallet_top.specs.declared.finding.Finding.{Finding}
 use Rattle.wallet_top.specs.declared.finding.Finding.TheVariants.{Unreadable, Match, NoMatch}
 use Rattle.wallet_top.specs.Asked.{file_limit, bad_query, asked_in, only, query_looks}
@@ -40,9 +43,28 @@ sd_reading asked None credential = option_map_or (λ c. tree_finding asked c.tre
 abbrev pub sd_finding : Option Credential → List ℕ → Finding
 sd_finding asked text = sd_reading asked (sd.refusal_of text) (sd.credential_in text)
 
+-- the number of the rule by which bytes are no mobile document: the first where they are refused as CBOR, the third where their
+-- issuer's message is
+abbrev pub mdoc_rule : md.Refusal → ℕ
+mdoc_rule (md.refused rule) = rule
+mdoc_rule (md.cbor rule) = 1
+mdoc_rule (md.cose rule) = 3
+
+abbrev pub mdoc_reading : Option Credential → Option md.Refusal → Option mdoc.Credential → Finding
+mdoc_reading asked (Some refusal) credential = Unreadable (mdoc_rule refusal)
+mdoc_reading asked None credential = option_map_or (λ c. tree_finding asked c.tree) credential NoMatch
+
+-- a mobile document, by its bytes
+abbrev pub bytes_finding : Option Credential → List ℕ → Finding
+bytes_finding asked bytes = mdoc_reading asked (md.refusal_of bytes) (mdoc.credential_in bytes)
+
+-- a mobile document, by the base64url of its bytes
+abbrev pub mdoc_finding : Option Credential → List ℕ → Finding
+mdoc_finding asked text = option_map_or (bytes_finding asked) (url64_bytes text) (Unreadable 0)
+
 abbrev pub text_finding : Format → Option Credential → List ℕ → Finding
 text_finding SdJwt asked text = sd_finding asked text
-text_finding Mdoc asked text = Unreadable 0
+text_finding Mdoc asked text = mdoc_finding asked text
 
 -- ---- a credential file
 

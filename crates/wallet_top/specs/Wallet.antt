@@ -4,7 +4,7 @@ use Rattle.std.specs.List.{before_first, after_first}
 use Rattle.std.specs.Option.{option_map_or}
 use Rattle.std.specs.Str.{bytes_eq, is_utf8}
 use Rattle.claim_tree.specs.declared.facts.Format.{Format}
-use Rattle.claim_tree.specs.declared.facts.Format.TheVariants.{SdJwt}
+use Rattle.claim_tree.specs.declared.facts.Format.TheVariants.{SdJwt, Mdoc}
 use Rattle.program_steps.specs.Lines.{lines_of, first_bad}
 
 -- how many credentials it may have
@@ -24,7 +24,9 @@ is_blank byte = byte == 32
 
 -- the format of a name
 abbrev pub format_named : List ℕ → Option Format
-format_named word = if bytes_eq word (codes "dc+sd-jwt") then Some SdJwt else None
+format_named word =
+    if bytes_eq word (codes "dc+sd-jwt") then Some SdJwt
+    else (if bytes_eq word (codes "mso_mdoc") then Some Mdoc else None)
 
 -- a format and the name of a file, which is not empty
 abbrev pub entry_with : Option Format → List ℕ → Option Entry

@@ -2,14 +2,16 @@
 ghost use Rattle.std.specs.Prelude.{◌≡◌, IfOk};
 ghost use Rattle.std.specs.Option.{option_copied};
 ghost use Rattle.claim_tree.specs.Tree.{Tree};
-ghost use Rattle.wallet_top.specs.Listing.{tree_finding, sd_finding, text_finding, without_feed, file_finding};
+ghost use Rattle.wallet_top.specs.Listing.{tree_finding, sd_finding, mdoc_finding, bytes_finding, without_feed, file_finding};
 
 use crate::finding::Finding;
 use crate::matching::has_asked;
+use base_forms::from_url64;
 use claim_tree::{ClaimView, Format};
 use dcql_query::CredentialQuery;
 use program_steps::text_of;
-use sdjwt_view::{Error, SdCredential};
+use mdoc_view::MdCredential;
+use sdjwt_view::SdCredential;
 use std::alloc::{AllocError, Global};
 
 /// What a credential file of this format with these bytes comes to.
@@ -26,7 +28,7 @@ pub fn judge_file(
     };
     match format {
         Format::SdJwt => judge_sd_jwt(alloc, asked, without_feed(text)),
-        Format::Mdoc => Ok(Finding::Unreadable(0)),
+        Format::Mdoc => judge_mdoc(alloc, asked, without_feed(text)),
     }
 }
 
@@ -49,9 +51,39 @@ fn judge_sd_jwt(
 {
     match SdCredential::read(alloc, text) {
         Ok(credential) => Ok(judge_tree(asked, credential.root())),
-        Err(Error::Refused(rule)) => Ok(Finding::Unreadable(rule)),
-        Err(Error::Envelope(_)) => Ok(Finding::Unreadable(2)),
-        Err(Error::NoMemory) => Err(AllocError),
+        Err(sdjwt_view::Error::Refused(rule)) => Ok(Finding::Unreadable(rule)),
+        Err(sdjwt_view::Error::Envelope(_)) => Ok(Finding::Unreadable(2)),
+        Err(sdjwt_view::Error::NoMemory) => Err(AllocError),
+    }
+}
+
+fn judge_mdoc(
+    alloc: Global,
+    asked: Option<&CredentialQuery>,
+    text: &str,
+) -> Result<Finding, AllocError>
+    ensures { IfOk result (λ finding. finding ≡ mdoc_finding (option_copied asked.entry) text.now) }
+{
+    match from_url64(alloc, text) {
+        Ok(bytes) => judge_bytes(alloc, asked, &bytes),
+        Err(base_forms::Error::Refused(_)) => Ok(Finding::Unreadable(0)),
+        Err(base_forms::Error::NoMemory) => Err(AllocError),
+    }
+}
+
+fn judge_bytes(
+    alloc: Global,
+    asked: Option<&CredentialQuery>,
+    bytes: &[u8],
+) -> Result<Finding, AllocError>
+    ensures { IfOk result (λ finding. finding ≡ bytes_finding (option_copied asked.entry) bytes.now) }
+{
+    match MdCredential::read(alloc, bytes) {
+        Ok(credential) => Ok(judge_tree(asked, credential.root())),
+        Err(mdoc_view::Error::Refused(rule)) => Ok(Finding::Unreadable(rule)),
+        Err(mdoc_view::Error::Cbor(_)) => Ok(Finding::Unreadable(1)),
+        Err(mdoc_view::Error::Cose(_)) => Ok(Finding::Unreadable(3)),
+        Err(mdoc_view::Error::NoMemory) => Err(AllocError),
     }
 }
 

@@ -111,6 +111,8 @@ fn format_named(word: &str) -> Option<Format>
 {
     if word == "dc+sd-jwt" {
         Some(Format::SdJwt)
+    } else if word == "mso_mdoc" {
+        Some(Format::Mdoc)
     } else {
         None
     }
