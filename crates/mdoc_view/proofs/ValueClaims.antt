@@ -77,13 +77,14 @@ module _ (held : Bool) where
 -- ---- the tree of an item
 
 module _ (inner : Span → Tree) (claims : (i : Span) → is_claim (inner i) ≡ true) where
+  named_at : (e : Span × Span) (es : Entries) (ms : List Valued) → ((name : Utf8) → is_claim (option_map_or (record_of false) (named_values inner es (put_value name (inner e.1) ms)) Other) ≡ true)
+      → (o : Option Utf8) → is_claim (option_map_or (record_of false) (option_and_then (λ name. named_values inner es (put_value name (inner e.1) ms)) o) Other) ≡ true
+  named_at e es ms next None = refl
+  named_at e es ms next (Some name) = next name
+
   values_claim : (es : Entries) (ms : List Valued) → AreClaims false ms → is_claim (option_map_or (record_of false) (named_values inner es ms) Other) ≡ true
   values_claim [] ms h = record_claim false ms h
-  values_claim (e ∷ es) ms h = named_at (utf8_text_of e.0)
-    where
-      named_at : (o : Option Utf8) → is_claim (option_map_or (record_of false) (option_and_then (λ name. named_values inner es (put_value name (inner e.1) ms)) o) Other) ≡ true
-      named_at None = refl
-      named_at (Some name) = values_claim es (put_value name (inner e.1) ms) (claims-put false name (inner e.1) ms (claims e.1) h)
+  values_claim (e ∷ es) ms h = named_at e es ms (λ name. values_claim es (put_value name (inner e.1) ms) (claims-put false name (inner e.1) ms (claims e.1) h)) (utf8_text_of e.0)
 
   none_held : (is : List Span) → list_any (λ h. h) (element_marks (elements_of (plain_parts inner is))) ≡ false
   none_held [] = refl
