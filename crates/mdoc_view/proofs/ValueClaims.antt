@@ -7,7 +7,8 @@ use Rattle.std.specs.Cmp.Lexicographic.{slice_cmp}
 use Rattle.std.proofs.lemmas.Bool.{and_parts, and_from}
 use Rattle.claim_tree.specs.Tree.{Name, Tree, Text, Whole, Truth, Bytes, Other, RecordOf, element_marks, member_names, ascend, is_claim, are_claims, hold_claims}
 use Rattle.claim_tree.specs.Parts.{elements_of, members_of}
-use Rattle.claim_tree.proofs.Ascending.{below, all_below, above}
+use Rattle.claim_tree.specs.Search.{below}
+use Rattle.claim_tree.proofs.Ascending.{all_below, above}
 use Rattle.cbor_core.specs.declared.kind.Kind.{Kind}
 use Rattle.cbor_core.specs.declared.kind.Kind.TheVariants as kind
 use Rattle.cbor_core.specs.Views.{kind_of, whole_of, bytes_of, utf8_text_of, truth_of, tag_of, items_of, entries_of}
