@@ -9,8 +9,8 @@ use crate::matching::has_asked;
 use base_forms::from_url64;
 use claim_tree::{ClaimView, Format};
 use dcql_query::CredentialQuery;
-use program_steps::text_of;
 use mdoc_view::MdCredential;
+use program_steps::text_of;
 use sdjwt_view::SdCredential;
 use std::alloc::{AllocError, Global};
 
