@@ -61,6 +61,7 @@ module _ {X : Type 0} (R : List X → List X → Type 0) (same : (xs : List X) �
 
   along_permutation : (xs ys : List X) → IsPermutation xs ys → R xs ys
   along_permutation xs = IsPermutation-keeps xs (R xs) (same xs) (λ l i j p q h. chain xs l _ h (swapped l i j p q))
+
 IsPermutation-flat_map : {A B : Type 0} (f : A → List B) (xs ys : List A) → IsPermutation xs ys → IsPermutation (flat_map f xs) (flat_map f ys)
 IsPermutation-flat_map f = along_permutation (λ xs ys. IsPermutation (flat_map f xs) (flat_map f ys))
     (λ xs. IsPermutation-refl _)
@@ -70,6 +71,7 @@ IsPermutation-flat_map f = along_permutation (λ xs ys. IsPermutation (flat_map 
 
 IsPermutation-filter : {A : Type 0} (p : A → Bool) (xs ys : List A) → IsPermutation xs ys → IsPermutation (filter p xs) (filter p ys)
 IsPermutation-filter p xs ys h = rw (filter_as_flat_map p xs, filter_as_flat_map p ys) (IsPermutation-flat_map _ xs ys h)
+
 ascending-filter : {X : Type 0} (R : X → X → Type 0) (p : X → Bool) (xs : List X) → IsAscending R xs → IsAscending R (filter p xs)
 ascending-filter R p [] up = tt
 ascending-filter R p (x ∷ xs) up =

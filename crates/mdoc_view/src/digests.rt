@@ -64,7 +64,7 @@ fn add<'t>(
 ) -> Result<(), AllocError>
     ensures { OnOk result
         ((x : Utf8) (number : ℕ) → look x number index.new
-            ≡ option_or (if bytes_eq name.now x then digest_in number (entries_of (span_of digests.entry)) else None) (look x number index.old)) }
+        ≡ option_or (if bytes_eq name.now x then digest_in number (entries_of (span_of digests.entry)) else None) (look x number index.old)) }
 {
     for (key, value) in digests.entries() {
         put(index, name, key, value)?;
@@ -81,7 +81,7 @@ fn put<'t>(
 ) -> Result<(), AllocError>
     ensures { OnOk result
         ((x : Utf8) (number : ℕ) → look x number index.new
-            ≡ option_or (if bytes_eq name.now x then (if is_numbered number (span_of key.entry) then bytes_of (span_of value.entry) else None) else None) (look x number index.old)) }
+        ≡ option_or (if bytes_eq name.now x then (if is_numbered number (span_of key.entry) then bytes_of (span_of value.entry) else None) else None) (look x number index.old)) }
 {
     let Some(number) = natural(key) else {
         return Ok(());

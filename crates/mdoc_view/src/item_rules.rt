@@ -124,11 +124,7 @@ fn lacks<'t>(digests: &Digests<'t>, name: &'t str, item: &Signed<'t>) -> bool
     digests.find(name, item.number).is_none()
 }
 
-fn any_deviates<'t>(
-    hash: HashName,
-    digests: &Digests<'t>,
-    namespaces: &[Namespace<'t>],
-) -> bool
+fn any_deviates<'t>(hash: HashName, digests: &Digests<'t>, namespaces: &[Namespace<'t>]) -> bool
     ensures { result ≡ list_any (any_item (deviates hash (entries_of (span_of digests.now.source)))) (map said_namespace namespaces.now) }
 {
     for namespace in namespaces {
@@ -139,11 +135,7 @@ fn any_deviates<'t>(
     false
 }
 
-fn any_item_deviates<'t>(
-    hash: HashName,
-    digests: &Digests<'t>,
-    namespace: &Namespace<'t>,
-) -> bool
+fn any_item_deviates<'t>(hash: HashName, digests: &Digests<'t>, namespace: &Namespace<'t>) -> bool
     ensures { result ≡ any_item (deviates hash (entries_of (span_of digests.now.source))) (said_namespace namespace.now) }
 {
     for item in namespace.items.as_slice() {
@@ -155,12 +147,7 @@ fn any_item_deviates<'t>(
 }
 
 // The digest is over the item with its tag, as it stands in the document.
-fn deviates<'t>(
-    hash: HashName,
-    digests: &Digests<'t>,
-    name: &'t str,
-    item: &Signed<'t>,
-) -> bool
+fn deviates<'t>(hash: HashName, digests: &Digests<'t>, name: &'t str, item: &Signed<'t>) -> bool
     ensures { result ≡ deviates hash (entries_of (span_of digests.now.source)) name.now (said_signed item.now) }
 {
     match digests.find(name, item.number) {

@@ -80,10 +80,7 @@ pub fn read_namespaces<'t>(
     }
 }
 
-fn read_all<'t>(
-    alloc: Global,
-    namespaces: Item<'t>,
-) -> Result<Option<Vec<Namespace<'t>>>, NoMemory>
+fn read_all<'t>(alloc: Global, namespaces: Item<'t>) -> Result<Option<Vec<Namespace<'t>>>, NoMemory>
     ensures { IfOk result (λ o. option_map (λ v. map said_namespace v.items) o ≡ all_namespaces (entries_of (span_of namespaces.entry))) }
 {
     let mut list = Vec::new(alloc);
