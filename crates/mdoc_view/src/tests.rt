@@ -247,7 +247,7 @@ fn too_many(rt: HostRuntime) -> Result<(), Fail> {
 #[test]
 fn licence(rt: HostRuntime) -> Result<(), Fail> {
     let alloc = rt.alloc();
-    let mut bytes = from_url64(alloc, LICENCE)?;
+    let bytes = from_url64(alloc, LICENCE)?;
     let credential = MdCredential::read(alloc, &bytes)?;
     let facts = credential.facts();
     assert!(rt; facts.format == Format::Mdoc);
@@ -258,27 +258,28 @@ fn licence(rt: HostRuntime) -> Result<(), Fail> {
     assert_eq!(rt; facts.first, 1700000000);
     assert!(rt; facts.past == Some(1800000001));
     assert_eq!(rt; credential.root().len(), 1);
-    assert!(rt; credential.root().held_at(0));
     let elements = credential
         .root()
         .member("org.iso.18013.5.1")
         .ok_or("no namespace")?;
     assert_eq!(rt; elements.len(), 4);
-    for (i, name) in ["birth_date", "family_name", "given_name", "portrait"]
-        .iter()
-        .enumerate()
-    {
-        assert_eq!(rt; elements.name_at(i), *name);
-        assert!(rt; elements.held_at(i));
-    }
     assert!(rt; text_of(elements, "birth_date") == Some("1990-01-01"));
     assert!(rt; text_of(elements, "given_name") == Some("Erika"));
     let portrait = elements.member("portrait").ok_or("no portrait")?;
     assert!(rt; portrait.shape() == Shape::Bytes);
     assert_eq!(rt; credential.bytes().len(), 841);
     assert_eq!(rt; credential.issuer_auth().signature().len(), 32);
+    Ok(())
+}
 
-    bytes[724] = 101;
+// The same with another letter in place of the E of `Erika`.
+#[test]
+fn altered(rt: HostRuntime) -> Result<(), Fail> {
+    let alloc = rt.alloc();
+    let mut bytes = from_url64(alloc, LICENCE)?;
+    if let Some(letter) = bytes.get_mut(724) {
+        *letter = 101;
+    }
     match MdCredential::read(alloc, &bytes) {
         Ok(_) => assert!(rt; false),
         Err(error) => assert_eq!(rt; error, Error::Refused(13)),
@@ -297,7 +298,12 @@ fn kinds(rt: HostRuntime) -> Result<(), Fail> {
     let bytes = from_url64(alloc, KINDS)?;
     let credential = MdCredential::read(alloc, &bytes)?;
     assert!(rt; credential.facts().holder.is_none());
-    assert_eq!(rt; credential.root().name_at(0), "m");
+    let root = credential.root();
+    assert_eq!(rt; root.len(), 2);
+    if root.len() == 2 {
+        assert_eq!(rt; root.at(0).len(), 1);
+        assert_eq!(rt; root.at(1).len(), 10);
+    }
     let elements = credential.root().member("n").ok_or("no namespace")?;
     for (name, shape, len) in [
         ("bytes", Shape::Bytes, 0),
@@ -318,8 +324,10 @@ fn kinds(rt: HostRuntime) -> Result<(), Fail> {
     }
     assert!(rt; elements.member("whole").and_then(MdNode::whole) == Some(-5));
     let map = elements.member("map").ok_or("no map")?;
-    assert_eq!(rt; map.name_at(0), "a");
-    assert!(rt; !map.held_at(0));
+    if map.len() == 2 {
+        assert!(rt; map.at(0).shape() == Shape::Record);
+        assert!(rt; map.at(1).whole() == Some(1));
+    }
     Ok(())
 }
 
