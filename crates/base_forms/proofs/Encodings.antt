@@ -225,10 +225,10 @@ read s m bytes is =
     let same = same_bytes (grouped s) m (IsBytes-grouped s all) bytes (append-nil _ ∙ whole ∙ is) in
     rw (unbroken s m bytes is) (ap (λ (x : List ℕ). Ok x) same)
 
--- a text that does not decode has loose bits
-pub refused : (s : List ℕ) → list_all is_url64 s ≡ true → (length s % 4 == 1) ≡ false → ((m : List ℕ) → IsBytes m → s ≡ url64_of m → ⊥) → url64_rule s ≡ Some 3
-refused s h len other = elim (cases_Bool (has_loose_bits s)) [
-  | inl loose ↦ by_bits s true h len loose
+-- a text that is no encoding, though its characters and its length are those of one, has loose bits
+pub loose : (s : List ℕ) → list_all is_url64 s ≡ true → (length s % 4 == 1) ≡ false → ((m : List ℕ) → IsBytes m → s ≡ url64_of m → ⊥) → url64_rule s ≡ Some 3
+loose s h len other = elim (cases_Bool (has_loose_bits s)) [
+  | inl bits ↦ by_bits s true h len bits
   | inr tight ↦ absurd (other (grouped s) (IsBytes-grouped s h) (sym (append-nil _ ∙ spelled s h len tight)))
 ]
 
