@@ -1,5 +1,5 @@
 -- An index by namespace and number, into which digests are put.
-use Rattle.std.proofs.Common.{◌≡◌, ℕ, ◌==◌, Bool, true, false, not, ◌&&◌, cond, List, [], ◌∷◌, Option, Some, None, option_map, Ordering, Less, Equal, Greater, nat_cmp, refl, sym, ap, ◌∙◌, arith, Bor, BTreeMap}
+use Rattle.std.proofs.Common.{◌≡◌, ℕ, ◌==◌, Bool, true, false, cond, Option, Some, None, option_map, Ordering, Less, Equal, Greater, nat_cmp, refl, sym, ap, ◌∙◌, arith, Bor, BTreeMap}
 use Rattle.std.proofs.lemmas.Bool.Decides.{nat_tests}
 use Rattle.std.specs.Option.{option_or, option_map_or}
 use Rattle.std.specs.BTreeMap as tree
@@ -7,9 +7,9 @@ use Rattle.std.specs.Ordering.{is_eq, ordering_then}
 use Rattle.std.specs.Cmp.Lexicographic.{slice_cmp}
 use Rattle.std.specs.Str.{bytes_eq}
 use Rattle.std.proofs.lemmas.Map.Text.{is_eq-slice_cmp}
-use Rattle.cbor_core.specs.Views.{bytes_of, entries_of, utf8_text_of}
-use Rattle.mdoc_view.specs.Looks.{Span, Utf8, Entries, natural_of}
-use Rattle.mdoc_view.specs.Digests.{is_numbered, digest_in, digest_at}
+use Rattle.cbor_core.specs.Views.{bytes_of}
+use Rattle.mdoc_view.specs.Looks.{Span, Utf8, natural_of}
+use Rattle.mdoc_view.specs.Digests.{is_numbered}
 use Rattle.mdoc_view.specs.Index.{look}
 
 pub or_none : {X : Type 0} (o : Option X) → option_or o None ≡ o

@@ -1,16 +1,15 @@
 -- The pairs of a key, in the order of their keys.
-use Rattle.std.proofs.Common.{◌≡◌, ℕ, List, [], ◌∷◌, ◌++◌, length, map, Ordering, Less, refl, sym, ap, ◌∙◌, subst, nat_cmp, IsPermutation}
+use Rattle.std.proofs.Common.{◌≡◌, ℕ, List, [], ◌∷◌, ◌++◌, length, Ordering, Less, refl, ap, ◌∙◌, subst, nat_cmp, IsPermutation}
 use Rattle.std.specs.Global.{Vec}
 use Rattle.std.specs.BTreeMap.{insert_entry}
 use Rattle.std.specs.Cmp.{IsTotalOrder}
 use Rattle.std.specs.Cmp.Lexicographic.{slice_cmp}
 use Rattle.std.specs.List.{AllByRecursion}
-use Rattle.std.specs.List.Sorted.{IsStrictlySortedBy, IsSortedByKey}
+use Rattle.std.specs.List.Sorted.{IsStrictlySortedBy}
 use Rattle.std.specs.Map.{keys_of}
 use Rattle.std.proofs.lemmas.Cmp.{nat_list_cmp_total}
-use Rattle.cbor_core.specs.Order.{owned, AreInOrder, AppendsSortedMap}
+use Rattle.cbor_core.specs.Order.{owned, AppendsSortedMap}
 use Rattle.cbor_core.specs.Writing.{head_bytes, pairs_bytes}
-use Rattle.mdoc_view.specs.Looks.{Entries}
 use Rattle.mdoc_view.specs.Key.{map_bytes}
 use Rattle.mdoc_view.specs.Pairs.{owned_pairs}
 use Rattle.mdoc_view.proofs.Inserting.{insert_seen}

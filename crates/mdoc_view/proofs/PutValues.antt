@@ -1,5 +1,5 @@
 -- Named trees that are put into a map.
-use Rattle.std.proofs.Common.{◌≡◌, ℕ, List, map, Ordering, refl, nat_cmp, Bor}
+use Rattle.std.proofs.Common.{◌≡◌, List, Ordering, refl, nat_cmp, Bor}
 use Rattle.std.specs.BTreeMap.{insert_entry}
 use Rattle.std.specs.Cmp.Lexicographic.{slice_cmp}
 use Rattle.claim_tree.specs.Owned.{tree_of}

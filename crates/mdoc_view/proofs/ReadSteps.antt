@@ -1,5 +1,5 @@
 -- Reading, step by step.
-use Rattle.std.proofs.Common.{◌≡◌, ℕ, List, Option, Some, None, option_and_then, Result, Ok, Err, sym, ap, ◌∙◌}
+use Rattle.std.proofs.Common.{◌≡◌, ℕ, List, Some, None, option_and_then, Result, Ok, Err, sym, ap, ◌∙◌}
 use Rattle.std.specs.Prelude.{IfOk, IfErr}
 use Rattle.cbor_core.specs.declared.error.Error as theirs
 use Rattle.cbor_core.specs.declared.error.Error.TheVariants as their

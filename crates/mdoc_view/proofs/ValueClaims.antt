@@ -1,11 +1,11 @@
 -- The tree of a document is a claim: names ascend, and no list has a held element.
-use Rattle.std.proofs.Common.{◌≡◌, ℕ, zero, suc, Bool, true, false, not, ◌&&◌, ◌||◌, List, [], ◌∷◌, map, Option, Some, None, option_and_then, Ordering, Less, Equal, Greater, nat_cmp, refl, ap, ap₂, ◌∙◌}
+use Rattle.std.proofs.Common.{◌≡◌, ℕ, zero, suc, Bool, true, false, not, ◌&&◌, ◌||◌, List, [], ◌∷◌, Option, Some, None, option_and_then, Ordering, Less, Equal, Greater, nat_cmp, refl, ap, ap₂}
 use Rattle.std.specs.Option.{option_map_or}
 use Rattle.std.specs.List.{list_all, list_any}
 use Rattle.std.specs.Ordering.{match_ordering}
 use Rattle.std.specs.Cmp.Lexicographic.{slice_cmp}
 use Rattle.std.proofs.lemmas.Bool.{and_parts, and_from}
-use Rattle.claim_tree.specs.Tree.{Name, Tree, Text, Whole, Truth, Bytes, Other, RecordOf, element_marks, member_names, ascend, is_claim, are_claims, hold_claims}
+use Rattle.claim_tree.specs.Tree.{Name, Tree, Text, Whole, Truth, Bytes, Other, element_marks, member_names, ascend, is_claim, are_claims, hold_claims}
 use Rattle.claim_tree.specs.Parts.{elements_of, members_of}
 use Rattle.claim_tree.specs.Search.{below}
 use Rattle.claim_tree.proofs.Ascending.{all_below, above}
@@ -14,7 +14,7 @@ use Rattle.cbor_core.specs.declared.kind.Kind.TheVariants as kind
 use Rattle.cbor_core.specs.Views.{kind_of, whole_of, bytes_of, utf8_text_of, truth_of, tag_of, items_of, entries_of}
 use Rattle.mdoc_view.specs.Looks.{Span, Utf8, Entries}
 use Rattle.mdoc_view.specs.Items.{Signed, Namespace}
-use Rattle.mdoc_view.specs.Value.{Valued, put_value, marked, record_of, named_values, map_tree, plain_parts, list_tree, content_tree, tree_by, value_at, value_of, element_values, namespace_tree, namespace_values, document_tree}
+use Rattle.mdoc_view.specs.Value.{Valued, put_value, marked, record_of, named_values, plain_parts, list_tree, tree_by, value_at, value_of, element_values, namespace_tree, namespace_values, document_tree}
 
 -- ---- a tree that is put in
 

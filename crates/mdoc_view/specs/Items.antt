@@ -1,5 +1,5 @@
 -- The signed items of a mobile document, `IssuerSignedItem` (ISO/IEC 18013-5, section 8.3.2.1.2.2), and their rules.
-use Rattle.std.specs.Prelude.{ℕ, Bool, true, false, not, ◌&&◌, ◌+◌, List, [], ◌∷◌, codes, map, length, nat_lt, Option, Some, None, option_map, option_and_then, is_none, unwrap_or}
+use Rattle.std.specs.Prelude.{ℕ, Bool, true, false, not, ◌&&◌, ◌+◌, List, [], ◌∷◌, codes, map, length, Option, Some, option_map, option_and_then, is_none}
 use Rattle.std.specs.Option.{option_map_or}
 use Rattle.std.specs.List.{list_any, list_all}
 use Rattle.std.specs.Str.{bytes_eq}

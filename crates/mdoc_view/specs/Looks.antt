@@ -1,6 +1,5 @@
 -- Looking into the maps of a mobile document (ISO/IEC 18013-5), which are items of CBOR (RFC 8949).
-use Rattle.std.specs.Prelude.{ℕ, ℤ, pos, negsuc, ◌==◌, Bool, true, false, ◌&&◌, List, Option, Some, None, option_and_then, is_none, if◌then◌else◌}
-use Rattle.std.specs.Option.{option_map_or}
+use Rattle.std.specs.Prelude.{ℕ, ℤ, pos, negsuc, ◌==◌, Bool, true, false, List, Option, Some, None, option_and_then, is_none, if◌then◌else◌}
 use Rattle.cbor_core.specs.declared.kind.Kind.{Kind}
 use Rattle.cbor_core.specs.declared.kind.Kind.TheVariants as kind
 use Rattle.cbor_core.specs.Rules.{broken_rule}

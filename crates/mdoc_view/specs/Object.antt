@@ -1,5 +1,5 @@
 -- The mobile security object (ISO/IEC 18013-5, section 9.1.2.4): what an issuer signs, and its rules.
-use Rattle.std.specs.Prelude.{ℕ, suc, Bool, true, false, not, ◌||◌, ◌==◌, List, [], ◌∷◌, codes, Option, Some, None, option_map, option_and_then, is_none, if◌then◌else◌}
+use Rattle.std.specs.Prelude.{ℕ, suc, Bool, false, not, ◌||◌, ◌==◌, List, [], ◌∷◌, codes, Option, None, option_map, option_and_then, is_none, if◌then◌else◌}
 use Rattle.std.specs.Option.{option_map_or}
 use Rattle.std.specs.Str.{bytes_eq}
 use Rattle.rule_tables.specs.Rules.{rule, first}

@@ -1,5 +1,5 @@
 -- What the parts of a document in memory stand for.
-use Rattle.std.specs.Prelude.{List, [], map, Option, Some, None}
+use Rattle.std.specs.Prelude.{[], map, Option, Some, None}
 use Rattle.cbor_core.specs.declared.item.Item.{Item}
 use Rattle.cbor_core.specs.Seen.{span_of}
 use Rattle.cbor_core.specs.Views.{entries_of}

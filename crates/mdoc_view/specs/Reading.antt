@@ -1,5 +1,5 @@
 -- What the bytes of an `IssuerSigned` (ISO/IEC 18013-5, section 8.3.2.1.2.2) say as a credential, where they break no rule.
-use Rattle.std.specs.Prelude.{ℕ, suc, List, Option, option_map, option_and_then, unwrap_or}
+use Rattle.std.specs.Prelude.{ℕ, List, Option, option_map, option_and_then, unwrap_or}
 use Rattle.claim_tree.specs.Tree.{Tree}
 use Rattle.cose_sign1.specs.Sign1.{Message, message_in, issuer_of}
 use Rattle.mdoc_view.specs.Looks.{Utf8, Entries}

@@ -1,4 +1,4 @@
-use Rattle.std.proofs.Common.{◌≡◌, ◌+◌, nat_lt}
+use Rattle.std.proofs.Common.{◌≡◌, nat_lt}
 use Rattle.cbor_core.specs.Seen.{span_of, entries_left}
 use Rattle.cbor_core.specs.Views.{entries_of}
 use Rattle.mdoc_view.specs.Items.{item_count, most_items}

@@ -1,4 +1,4 @@
-use Rattle.std.proofs.Common.{◌≡◌, ◌<◌, IfOk, sym, ap, ◌∙◌, arith, subst}
+use Rattle.std.proofs.Common.{◌≡◌, ◌<◌, IfOk, sym, ◌∙◌, arith, subst}
 use Rattle.claim_tree.specs.Owned.{tree_of}
 use Rattle.cbor_core.specs.declared.kind.Kind.TheVariants as kind
 use Rattle.cbor_core.specs.Seen.{span_of}
