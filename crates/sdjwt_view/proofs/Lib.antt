@@ -4,6 +4,7 @@ pub mod FirstPlaces
 pub mod Reaching
 pub mod Sets
 pub mod Claims
+pub mod LastElements
 pub mod ValueClaims
 pub mod HolderKeys
 pub mod PlacingSteps
