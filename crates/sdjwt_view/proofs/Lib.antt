@@ -1,5 +1,6 @@
 pub mod Spellings
 pub mod Orders
+pub mod Tables
 pub mod FirstPlaces
 pub mod Reaching
 pub mod Sets
