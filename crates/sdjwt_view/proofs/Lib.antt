@@ -1,9 +1,11 @@
 pub mod Spellings
 pub mod Orders
+pub mod Tables
 pub mod FirstPlaces
 pub mod Reaching
 pub mod Sets
 pub mod Claims
+pub mod LastElements
 pub mod ValueClaims
 pub mod HolderKeys
 pub mod PlacingSteps

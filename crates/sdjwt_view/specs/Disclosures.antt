@@ -35,6 +35,12 @@ salted (salt ∷ value ∷ []) = if is_text salt then Some (None, value) else No
 salted (salt ∷ name ∷ value ∷ []) = if is_text salt then option_map (λ k. (Some k, value)) (as_str name) else None
 salted _ = None
 
+-- the last of some values, in which a disclosure has its own
+abbrev pub last_of : List Data → Option Data
+last_of [] = None
+last_of (d ∷ []) = Some d
+last_of (d ∷ e ∷ ds) = last_of (e ∷ ds)
+
 -- the JSON value whose base64url a text is
 abbrev pub json_in : Utf8 → Option Data
 json_in text = option_and_then json_of (url64_bytes text)

@@ -9,6 +9,7 @@ pub mod Said
 pub mod Named
 pub mod Held
 pub mod Prefixed
+pub mod Tabled
 pub mod Placed
 pub mod Refusal
 pub mod Listed

@@ -4,7 +4,7 @@ ghost use Rattle.serde_json.specs.View.{view};
 ghost use Rattle.claim_tree.specs.Tree.{is_claim};
 ghost use Rattle.claim_tree.specs.Plain.{plain};
 ghost use Rattle.json_forms.specs.Look.{elements_of};
-ghost use Rattle.sdjwt_view.specs.Disclosures.{json_in, salted, digest_of};
+ghost use Rattle.sdjwt_view.specs.Disclosures.{json_in, salted, last_of, digest_of};
 
 use base_forms::{HashName, from_url64, to_url64};
 use json_forms::{elements, read_json};
@@ -31,17 +31,21 @@ impl Disclosure {
         let Some(json) = json_in(alloc, text)? else {
             return Ok(None);
         };
-        let Some((name, value)) = salted(&json) else {
+        let Some((name, _)) = salted(&json) else {
             return Ok(None);
         };
         let name = match name {
             Some(name) => Some(String::from_str(alloc, name)?),
             None => None,
         };
+        let digest = digest_of(alloc, hash, text)?;
+        let Some(value) = last_element(json) else {
+            return Ok(None);
+        };
         Ok(Some(Disclosure {
-            digest: digest_of(alloc, hash, text)?,
+            digest,
             name,
-            value: value.clone()?,
+            value,
         }))
     }
 
@@ -85,6 +89,27 @@ fn digest_of(alloc: Global, hash: HashName, text: &str) -> Result<String, AllocE
         Ok(text) => Ok(text),
         Err(_) => Err(AllocError),
     }
+}
+
+// The last element of a list.
+fn last_element(json: Value) -> Option<Value>
+    ensures { option_map view result ≡ last_of (elements_of (view json)) }
+{
+    match json {
+        Value::Array(list) => last_of(list),
+        Value::Null
+        | Value::Bool(_)
+        | Value::Number(_)
+        | Value::String(_)
+        | Value::Object(_) => None,
+    }
+}
+
+fn last_of(list: Vec<Value>) -> Option<Value>
+    ensures { option_map view result ≡ last_of (map view list.items) }
+{
+    let mut list = list;
+    list.pop()
 }
 
 // The name and the value behind the salt.

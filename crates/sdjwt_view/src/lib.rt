@@ -18,6 +18,7 @@ mod placing;
 mod reach;
 mod reader;
 mod spell;
+mod table;
 mod view;
 
 pub use credential::SdCredential;

@@ -9,15 +9,18 @@ ghost use Rattle.sdjwt_view.specs.Said.{said};
 ghost use Rattle.claim_tree.specs.Owned.{tree_of, part_of, named_of};
 ghost use Rattle.claim_tree.specs.Search.{names_of};
 ghost use Rattle.sdjwt_view.specs.Nodes.{parts_of};
+ghost use Rattle.sdjwt_view.specs.Tabled.{tabled};
 ghost use Rattle.sdjwt_view.specs.Places.{own_digests, texts_in};
 ghost use Rattle.sdjwt_view.specs.Spelling.{left_out, spelled, spelled_list, spelled_record, spelled_element, spelled_members, plain_members, with_disclosure, with_disclosures};
 
 use crate::disclosures::Disclosures;
 use crate::node::Spelled;
 use crate::places::{has_placeholder, own_digests, placeholder};
-use claim_tree::{OwnedElement, OwnedMember, OwnedTree, put_member};
+use crate::table::{members_of, put, table_of};
+use claim_tree::{OwnedElement, OwnedMember, OwnedTree};
 use serde_json::{Map, Number, Value};
 use std::alloc::{AllocError, Global};
+use std::collections::BTreeMap;
 
 /// None where the value has more than so many lists and records inside one Other.
 #[cycle(spell)]
@@ -171,15 +174,15 @@ fn spell_disclosed(
     ensures { IfOk result
         (λ o. option_map (λ v. map named_of v.items) o ≡ with_disclosures (spelled levels (all_said disclosures.now)) (all_said disclosures.now) (texts_in (items_view digests.now.items)) (map named_of plain.items)) }
 {
-    let mut members = plain;
+    let mut table = table_of(alloc, plain)?;
     for item in digests {
         if let Some(digest) = item.as_str() {
-            if !put_disclosed(alloc, levels, disclosures, digest, &mut members)? {
+            if !put_disclosed(alloc, levels, disclosures, digest, &mut table)? {
                 return Ok(None);
             }
         }
     }
-    Ok(Some(members))
+    Ok(Some(members_of(alloc, table)?))
 }
 
 #[cycle(spell)]
@@ -188,12 +191,12 @@ fn put_disclosed(
     levels: usize,
     disclosures: &Disclosures,
     digest: &str,
-    members: &mut Vec<OwnedMember>,
+    table: &mut BTreeMap<String, OwnedElement>,
 ) -> Result<bool, AllocError>
-    requires { ascend (names_of (map named_of members.old.items)) ≡ true }
-    ensures order { ascend (names_of (map named_of members.new.items)) ≡ true }
+    requires { ascend (names_of (tabled table.old.entries)) ≡ true }
+    ensures order { ascend (names_of (tabled table.new.entries)) ≡ true }
     ensures put { IfOk result
-        (λ done. with_disclosure (spelled levels (all_said disclosures.now)) (found digest.now (all_said disclosures.now)) (map named_of members.old.items) ≡ (if done then Some (map named_of members.new.items) else None)) }
+        (λ done. with_disclosure (spelled levels (all_said disclosures.now)) (found digest.now (all_said disclosures.now)) (tabled table.old.entries) ≡ (if done then Some (tabled table.new.entries) else None)) }
 {
     let Some(disclosure) = disclosures.find(digest) else {
         return Ok(true);
@@ -205,8 +208,8 @@ fn put_disclosed(
         return Ok(false);
     };
     let name = String::from_str(alloc, name)?;
-    put_member(
-        members,
+    put(
+        table,
         OwnedMember {
             name,
             held: true,

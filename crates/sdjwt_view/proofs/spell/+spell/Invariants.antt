@@ -5,6 +5,7 @@ use Rattle.claim_tree.specs.Tree.{ascend}
 use Rattle.claim_tree.specs.Search.{names_of}
 use Rattle.claim_tree.specs.Owned.{part_of, named_of}
 use Rattle.sdjwt_view.specs.Places.{texts_in}
+use Rattle.sdjwt_view.specs.Tabled.{tabled}
 use Rattle.sdjwt_view.specs.Prefixed.{prefixed}
 use Rattle.sdjwt_view.specs.Spelling.{spelled, spelled_elements, plain_members, with_disclosures}
 use Rattle.sdjwt_view.proofs.spell.+spell.Given as goal
@@ -41,6 +42,6 @@ invariant-spell_plain-loop-name l = prefixed (map named_of l.members.items) (pla
 
 abbrev pub invariant-spell_disclosed-loop-item : goal.invariant-spell_disclosed-loop-item
 invariant-spell_disclosed-loop-item l =
-    (ascend (names_of (map named_of l.members.items)) ≡ true)
-    × (with_disclosures (spelled l.levels (all_said l.disclosures)) (all_said l.disclosures) (texts_in (items_view (drop l.item-index l.item-items))) (map named_of l.members.items)
-    ≡ with_disclosures (spelled l.levels (all_said l.disclosures)) (all_said l.disclosures) (texts_in (items_view l.item-items)) (map named_of l.initial.members.items))
+    (ascend (names_of (tabled l.table.entries)) ≡ true)
+    × (with_disclosures (spelled l.levels (all_said l.disclosures)) (all_said l.disclosures) (texts_in (items_view (drop l.item-index l.item-items))) (tabled l.table.entries)
+    ≡ with_disclosures (spelled l.levels (all_said l.disclosures)) (all_said l.disclosures) (texts_in (items_view l.item-items)) (tabled l.initial.table.entries))
