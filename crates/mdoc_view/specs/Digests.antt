@@ -1,6 +1,6 @@
 -- `valueDigests` of a mobile security object (ISO/IEC 18013-5, section 9.1.2.4): for each namespace the digests of its items, by their
 -- numbers.
-use Rattle.std.specs.Prelude.{ℕ, ◌==◌, Bool, false, ◌&&◌, List, [], ◌∷◌, Option, Some, None, is_some, if◌then◌else◌}
+use Rattle.std.specs.Prelude.{ℕ, ◌==◌, Bool, false, ◌&&◌, List, [], ◌∷◌, Option, Some, None, option_and_then, is_some, if◌then◌else◌}
 use Rattle.std.specs.Option.{option_map_or, option_or}
 use Rattle.std.specs.List.{list_all}
 use Rattle.std.specs.Str.{bytes_eq}
@@ -37,7 +37,11 @@ abbrev pub digest_in : ℕ → Entries → Option (List ℕ)
 digest_in number [] = None
 digest_in number (e ∷ es) = option_or (digest_in number es) (if is_numbered number e.0 then bytes_of e.1 else None)
 
+-- the map of a namespace's digests
+abbrev pub space_at : Utf8 → Entries → Option Span
+space_at name [] = None
+space_at name (e ∷ es) = option_or (space_at name es) (if is_named name e.0 then Some e.1 else None)
+
 -- the digest of a number in a namespace
 abbrev pub digest_at : Utf8 → ℕ → Entries → Option (List ℕ)
-digest_at name number [] = None
-digest_at name number (e ∷ es) = option_or (digest_at name number es) (if is_named name e.0 then digest_in number (entries_of e.1) else None)
+digest_at name number entries = option_and_then (λ space. digest_in number (entries_of space)) (space_at name entries)

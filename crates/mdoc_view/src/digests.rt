@@ -1,24 +1,23 @@
 // The digests of a document's items, by namespace and number.
-ghost use Rattle.std.specs.Prelude.{◌≡◌, ℕ, IfOk, OnOk, option_map, if◌then◌else◌, None};
+ghost use Rattle.std.specs.Prelude.{◌≡◌, ℕ, IfOk, OnOk, option_map, option_and_then, if◌then◌else◌, Some, None};
 ghost use Rattle.std.specs.Option.{option_or};
-ghost use Rattle.std.specs.Str.{bytes_eq};
 ghost use Rattle.cbor_core.specs.Seen.{span_of};
 ghost use Rattle.cbor_core.specs.Views.{bytes_of, entries_of};
 ghost use Rattle.mdoc_view.specs.Looks.{Utf8};
-ghost use Rattle.mdoc_view.specs.Digests.{is_digest, is_digest_map, is_digest_space, are_digests, is_numbered, digest_in, digest_at};
-ghost use Rattle.mdoc_view.specs.Index.{look};
+ghost use Rattle.mdoc_view.specs.Digests.{is_digest, is_digest_map, is_digest_space, are_digests, is_named, is_numbered, digest_in, digest_at, space_at};
+ghost use Rattle.mdoc_view.specs.Index.{look, seek};
 
 use crate::looks::{is_map, natural};
 use cbor_core::Item;
 use std::alloc::{AllocError, Global};
 use std::collections::BTreeMap;
 
-/// The digests of all namespaces, each found in logarithmic time.
+/// The digests of all namespaces. That of a name is found in logarithmic time.
 #[derive(Drop)]
 pub struct Digests<'t> {
     source: Item<'t>,
-    index: BTreeMap<(&'t str, u64), &'t [u8]>,
-    ghost indexed: { (name : Utf8) (number : ℕ) → look name number index ≡ digest_at name number (entries_of (span_of source)) },
+    spaces: BTreeMap<&'t str, Item<'t>>,
+    ghost indexed: { (name : Utf8) → seek name spaces ≡ space_at name (entries_of (span_of source)) },
 }
 
 impl<'t> Digests<'t> {
@@ -26,62 +25,108 @@ impl<'t> Digests<'t> {
     pub fn new(alloc: Global, source: Item<'t>) -> Result<Digests<'t>, AllocError>
         ensures { IfOk result (λ ds. span_of ds.source ≡ span_of source.entry) }
     {
-        let index = index(alloc, source)?;
-        Ok(Digests { source, index })
+        let spaces = spaces(alloc, source)?;
+        Ok(Digests { source, spaces })
     }
 
-    /// The digest of a number in a namespace.
-    pub fn find(&self, name: &'t str, number: u64) -> Option<&'t [u8]>
-        ensures { option_map (λ b. b.now) result ≡ digest_at name.now number (entries_of (span_of self.now.source)) }
+    /// The digests of a namespace.
+    pub fn under(&self, alloc: Global, name: &'t str) -> Result<Numbers<'t>, AllocError>
+        ensures source { IfOk result (λ ns. span_of ns.source ≡ span_of self.now.source) }
+        ensures name { IfOk result (λ ns. ns.name.now ≡ name.now) }
     {
-        match self.index.get(&(name, number)) {
+        let index = index_of(alloc, self.space(name))?;
+        Ok(Numbers {
+            source: self.source,
+            name,
+            index,
+        })
+    }
+
+    fn space(&self, name: &'t str) -> Option<Item<'t>>
+        ensures { option_map (λ i. span_of i) result ≡ space_at name.now (entries_of (span_of self.now.source)) }
+    {
+        match self.spaces.get(&name) {
+            Some(space) => Some(*space),
+            None => None,
+        }
+    }
+}
+
+/// The digests of one namespace. That of a number is found in logarithmic time.
+#[derive(Drop)]
+pub struct Numbers<'t> {
+    source: Item<'t>,
+    name: &'t str,
+    index: BTreeMap<u64, &'t [u8]>,
+    ghost indexed: { (number : ℕ) → look number index ≡ digest_at name.now number (entries_of (span_of source)) },
+}
+
+impl<'t> Numbers<'t> {
+    pub fn find(&self, number: u64) -> Option<&'t [u8]>
+        ensures { option_map (λ b. b.now) result ≡ digest_at self.now.name.now number (entries_of (span_of self.now.source)) }
+    {
+        match self.index.get(&number) {
             Some(digest) => Some(*digest),
             None => None,
         }
     }
 }
 
-fn index<'t>(
-    alloc: Global,
-    source: Item<'t>,
-) -> Result<BTreeMap<(&'t str, u64), &'t [u8]>, AllocError>
-    ensures { IfOk result (λ index. (name : Utf8) (number : ℕ) → look name number index ≡ digest_at name number (entries_of (span_of source.entry))) }
+fn spaces<'t>(alloc: Global, source: Item<'t>) -> Result<BTreeMap<&'t str, Item<'t>>, AllocError>
+    ensures { IfOk result (λ spaces. (name : Utf8) → seek name spaces ≡ space_at name (entries_of (span_of source.entry))) }
 {
-    let mut index = BTreeMap::new(alloc);
-    for (key, digests) in source.entries() {
-        if let Some(name) = key.text() {
-            add(&mut index, name, digests)?;
-        }
+    let mut spaces = BTreeMap::new(alloc);
+    for (key, space) in source.entries() {
+        put_space(&mut spaces, key, space)?;
     }
-    Ok(index)
+    Ok(spaces)
 }
 
-// Puts in the digests of a namespace.
-fn add<'t>(
-    index: &mut BTreeMap<(&'t str, u64), &'t [u8]>,
-    name: &'t str,
-    digests: Item<'t>,
+fn put_space<'t>(
+    spaces: &mut BTreeMap<&'t str, Item<'t>>,
+    key: Item<'t>,
+    space: Item<'t>,
 ) -> Result<(), AllocError>
     ensures { OnOk result
-        ((x : Utf8) (number : ℕ) → look x number index.new
-        ≡ option_or (if bytes_eq name.now x then digest_in number (entries_of (span_of digests.entry)) else None) (look x number index.old)) }
+        ((x : Utf8) → seek x spaces.new ≡ option_or (if is_named x (span_of key.entry) then Some (span_of space.entry) else None) (seek x spaces.old)) }
 {
-    for (key, value) in digests.entries() {
-        put(index, name, key, value)?;
-    }
+    let Some(name) = key.text() else {
+        return Ok(());
+    };
+    spaces.insert(name, space)?;
     Ok(())
 }
 
-// Puts in the digest of a number.
-fn put<'t>(
-    index: &mut BTreeMap<(&'t str, u64), &'t [u8]>,
-    name: &'t str,
+fn index_of<'t>(
+    alloc: Global,
+    space: Option<Item<'t>>,
+) -> Result<BTreeMap<u64, &'t [u8]>, AllocError>
+    ensures { IfOk result
+        (λ numbers. (number : ℕ) → look number numbers ≡ option_and_then (λ s. digest_in number (entries_of s)) (option_map (λ i. span_of i) space.entry)) }
+{
+    match space {
+        Some(space) => numbers_in(alloc, space),
+        None => Ok(BTreeMap::new(alloc)),
+    }
+}
+
+fn numbers_in<'t>(alloc: Global, space: Item<'t>) -> Result<BTreeMap<u64, &'t [u8]>, AllocError>
+    ensures { IfOk result (λ numbers. (number : ℕ) → look number numbers ≡ digest_in number (entries_of (span_of space.entry))) }
+{
+    let mut numbers = BTreeMap::new(alloc);
+    for (key, value) in space.entries() {
+        put_number(&mut numbers, key, value)?;
+    }
+    Ok(numbers)
+}
+
+fn put_number<'t>(
+    numbers: &mut BTreeMap<u64, &'t [u8]>,
     key: Item<'t>,
     value: Item<'t>,
 ) -> Result<(), AllocError>
     ensures { OnOk result
-        ((x : Utf8) (number : ℕ) → look x number index.new
-        ≡ option_or (if bytes_eq name.now x then (if is_numbered number (span_of key.entry) then bytes_of (span_of value.entry) else None) else None) (look x number index.old)) }
+        ((x : ℕ) → look x numbers.new ≡ option_or (if is_numbered x (span_of key.entry) then bytes_of (span_of value.entry) else None) (look x numbers.old)) }
 {
     let Some(number) = natural(key) else {
         return Ok(());
@@ -89,7 +134,7 @@ fn put<'t>(
     let Some(digest) = value.bytes() else {
         return Ok(());
     };
-    index.insert((name, number), digest)?;
+    numbers.insert(number, digest)?;
     Ok(())
 }
 

@@ -7,7 +7,7 @@ ghost use Rattle.mdoc_view.specs.Items.{digests_rule, elements_differ, lacks, de
 ghost use Rattle.mdoc_view.specs.Judged.{IsJudged};
 ghost use Rattle.mdoc_view.specs.Parts.{said_signed, said_namespace, said_object, entries_in};
 
-use crate::digests::Digests;
+use crate::digests::{Digests, Numbers};
 use crate::distinct::are_distinct;
 use crate::error::NoMemory;
 use crate::items::{Namespace, Signed, are_too_many, read_namespaces};
@@ -59,10 +59,10 @@ fn digests_rule<'t>(
         return Ok(Some(11));
     }
     let digests = Digests::new(alloc, digests)?;
-    if any_lacks(&digests, namespaces) {
+    if any_lacks(alloc, &digests, namespaces)? {
         return Ok(Some(12));
     }
-    if any_deviates(hash, &digests, namespaces) {
+    if any_deviates(alloc, hash, &digests, namespaces)? {
         return Ok(Some(13));
     }
     Ok(None)
@@ -96,50 +96,55 @@ fn elements<'t>(alloc: Global, items: &[Signed<'t>]) -> Result<Vec<&'t str>, All
     Ok(elements)
 }
 
-fn any_lacks<'t>(digests: &Digests<'t>, namespaces: &[Namespace<'t>]) -> bool
-    ensures { result ≡ list_any (any_item (lacks (entries_of (span_of digests.now.source)))) (map said_namespace namespaces.now) }
+fn any_lacks<'t>(
+    alloc: Global,
+    digests: &Digests<'t>,
+    namespaces: &[Namespace<'t>],
+) -> Result<bool, AllocError>
+    ensures { IfOk result (λ b. b ≡ list_any (any_item (lacks (entries_of (span_of digests.now.source)))) (map said_namespace namespaces.now)) }
 {
     for namespace in namespaces {
-        if any_item_lacks(digests, namespace) {
+        let numbers = digests.under(alloc, namespace.name)?;
+        if any_item_lacks(&numbers, &namespace.items) {
+            return Ok(true);
+        }
+    }
+    Ok(false)
+}
+
+fn any_item_lacks<'t>(numbers: &Numbers<'t>, items: &[Signed<'t>]) -> bool
+    ensures { result ≡ list_any (lacks (entries_of (span_of numbers.now.source)) numbers.now.name.now) (map said_signed items.now) }
+{
+    for item in items {
+        if numbers.find(item.number).is_none() {
             return true;
         }
     }
     false
 }
 
-fn any_item_lacks<'t>(digests: &Digests<'t>, namespace: &Namespace<'t>) -> bool
-    ensures { result ≡ any_item (lacks (entries_of (span_of digests.now.source))) (said_namespace namespace.now) }
-{
-    for item in namespace.items.as_slice() {
-        if lacks(digests, namespace.name, item) {
-            return true;
-        }
-    }
-    false
-}
-
-fn lacks<'t>(digests: &Digests<'t>, name: &'t str, item: &Signed<'t>) -> bool
-    ensures { result ≡ lacks (entries_of (span_of digests.now.source)) name.now (said_signed item.now) }
-{
-    digests.find(name, item.number).is_none()
-}
-
-fn any_deviates<'t>(hash: HashName, digests: &Digests<'t>, namespaces: &[Namespace<'t>]) -> bool
-    ensures { result ≡ list_any (any_item (deviates hash (entries_of (span_of digests.now.source)))) (map said_namespace namespaces.now) }
+fn any_deviates<'t>(
+    alloc: Global,
+    hash: HashName,
+    digests: &Digests<'t>,
+    namespaces: &[Namespace<'t>],
+) -> Result<bool, AllocError>
+    ensures { IfOk result (λ b. b ≡ list_any (any_item (deviates hash (entries_of (span_of digests.now.source)))) (map said_namespace namespaces.now)) }
 {
     for namespace in namespaces {
-        if any_item_deviates(hash, digests, namespace) {
-            return true;
+        let numbers = digests.under(alloc, namespace.name)?;
+        if any_item_deviates(hash, &numbers, &namespace.items) {
+            return Ok(true);
         }
     }
-    false
+    Ok(false)
 }
 
-fn any_item_deviates<'t>(hash: HashName, digests: &Digests<'t>, namespace: &Namespace<'t>) -> bool
-    ensures { result ≡ any_item (deviates hash (entries_of (span_of digests.now.source))) (said_namespace namespace.now) }
+fn any_item_deviates<'t>(hash: HashName, numbers: &Numbers<'t>, items: &[Signed<'t>]) -> bool
+    ensures { result ≡ list_any (deviates hash (entries_of (span_of numbers.now.source)) numbers.now.name.now) (map said_signed items.now) }
 {
-    for item in namespace.items.as_slice() {
-        if deviates(hash, digests, namespace.name, item) {
+    for item in items {
+        if deviates(hash, numbers, item) {
             return true;
         }
     }
@@ -147,10 +152,10 @@ fn any_item_deviates<'t>(hash: HashName, digests: &Digests<'t>, namespace: &Name
 }
 
 // The digest is over the item with its tag, as it stands in the document.
-fn deviates<'t>(hash: HashName, digests: &Digests<'t>, name: &'t str, item: &Signed<'t>) -> bool
-    ensures { result ≡ deviates hash (entries_of (span_of digests.now.source)) name.now (said_signed item.now) }
+fn deviates<'t>(hash: HashName, numbers: &Numbers<'t>, item: &Signed<'t>) -> bool
+    ensures { result ≡ deviates hash (entries_of (span_of numbers.now.source)) numbers.now.name.now (said_signed item.now) }
 {
-    match digests.find(name, item.number) {
+    match numbers.find(item.number) {
         Some(digest) => digest != hash.digest(item.span).bytes(),
         None => false,
     }

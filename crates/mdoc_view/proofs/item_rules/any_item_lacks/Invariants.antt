@@ -7,4 +7,4 @@ use Rattle.mdoc_view.specs.Parts.{said_signed}
 use Rattle.mdoc_view.proofs.item_rules.any_item_lacks.Given as goal
 
 abbrev pub invariant-loop-item : goal.invariant-loop-item
-invariant-loop-item l = list_any (lacks (entries_of (span_of l.digests.source)) l.namespace.name.now) (map said_signed (drop l.item-index l.namespace.items.items)) ≡ list_any (lacks (entries_of (span_of l.digests.source)) l.namespace.name.now) (map said_signed l.namespace.items.items)
+invariant-loop-item l = list_any (lacks (entries_of (span_of l.numbers.source)) l.numbers.name.now) (map said_signed (drop l.item-index l.items)) ≡ list_any (lacks (entries_of (span_of l.numbers.source)) l.numbers.name.now) (map said_signed l.items)

@@ -1,15 +1,15 @@
-use Rattle.std.proofs.Common.{◌≡◌, ℕ}
+use Rattle.std.proofs.Common.{◌≡◌}
 use Rattle.std.specs.Option.{option_or}
 use Rattle.cbor_core.specs.Seen.{span_of, entries_left}
 use Rattle.cbor_core.specs.Views.{entries_of}
 use Rattle.mdoc_view.specs.Looks.{Utf8}
-use Rattle.mdoc_view.specs.Digests.{digest_at}
-use Rattle.mdoc_view.specs.Index.{look}
-use Rattle.mdoc_view.proofs.digests.index.Given as goal
+use Rattle.mdoc_view.specs.Digests.{space_at}
+use Rattle.mdoc_view.specs.Index.{seek}
+use Rattle.mdoc_view.proofs.digests.spaces.Given as goal
 
 abbrev pub invariant-loop-key : goal.invariant-loop-key
 invariant-loop-key l = record {
   can_next : (goal.iterator-loop-key).can_next l.key-iterator;
   is_finite : (goal.iterator-loop-key).is_finite l.key-iterator;
-  left : (x : Utf8) (z : ℕ) → option_or (digest_at x z (entries_left l.key-iterator)) (look x z l.index) ≡ digest_at x z (entries_of (span_of l.source));
+  left : (x : Utf8) → option_or (space_at x (entries_left l.key-iterator)) (seek x l.spaces) ≡ space_at x (entries_of (span_of l.source));
 }
