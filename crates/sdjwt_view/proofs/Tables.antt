@@ -1,5 +1,5 @@
 -- Members that come to a table in the order of their names.
-use Rattle.std.proofs.Common.{◌≡◌, Bool, true, false, ◌&&◌, List, [], ◌∷◌, ◌++◌, map, Option, Some, None, cond, Ordering, Less, Equal, Greater, String, Global, string_bytes, nat_cmp, refl, sym, ap, ◌∙◌}
+use Rattle.std.proofs.Common.{◌≡◌, Bool, true, false, List, [], ◌∷◌, ◌++◌, Some, cond, Ordering, Less, Equal, Greater, String, Global, string_bytes, nat_cmp, refl, ap, ◌∙◌}
 use Rattle.std.specs.List.{list_all}
 use Rattle.std.specs.Option.{is_some}
 use Rattle.std.specs.Map.{lookup}

@@ -97,11 +97,8 @@ fn last_element(json: Value) -> Option<Value>
 {
     match json {
         Value::Array(list) => last_of(list),
-        Value::Null
-        | Value::Bool(_)
-        | Value::Number(_)
-        | Value::String(_)
-        | Value::Object(_) => None,
+        Value::Null | Value::Bool(_) | Value::Number(_) | Value::String(_) | Value::Object(_) =>
+            None,
     }
 }
 

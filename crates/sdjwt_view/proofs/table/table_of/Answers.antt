@@ -1,4 +1,4 @@
-use Rattle.std.proofs.Common.{◌≡◌, true, [], ◌∷◌, ◌++◌, map, sym, ap, ◌∙◌, append_assoc}
+use Rattle.std.proofs.Common.{◌≡◌, [], ◌∷◌, ◌++◌, map, sym, ap, ◌∙◌, append_assoc}
 use Rattle.std.specs.Vec.Iter.{into_iter_items}
 use Rattle.claim_tree.specs.Tree.{ascend}
 use Rattle.claim_tree.specs.Owned.{named_of}
@@ -14,6 +14,9 @@ loop-member-preserved c =
     ap (λ ms. tabled c.loop-member.table.entries ++ map named_of ms) (sym step) ∙ c.loop-member.invariant.3 in
     let up = ap (λ ns. ascend (names_of ns)) whole ∙ c.requires in
     let new : tabled c.put.new.table.entries ≡ tabled c.loop-member.table.entries ++ named_of c.in-Some.member ∷ [] =
-    c.in_ok-put.ensures.put ∙ put_last (tabled c.loop-member.table.entries) (named_of c.in-Some.member) (map named_of (into_iter_items c.next.new.self)) up in
-    (tt, tt, c.put.ensures.order,
-    ap (λ ms. ms ++ map named_of (into_iter_items c.next.new.self)) new ∙ append_assoc (tabled c.loop-member.table.entries) (named_of c.in-Some.member ∷ []) (map named_of (into_iter_items c.next.new.self)) ∙ whole)
+    c.in_ok-put.ensures.put ∙ put_last (tabled c.loop-member.table.entries) (named_of c.in-Some.member) (map named_of (into_iter_items c.next.new.self)) up in (
+      tt,
+      tt,
+      c.put.ensures.order,
+      ap (λ ms. ms ++ map named_of (into_iter_items c.next.new.self)) new ∙ append_assoc (tabled c.loop-member.table.entries) (named_of c.in-Some.member ∷ []) (map named_of (into_iter_items c.next.new.self)) ∙ whole,
+    )
