@@ -23,6 +23,10 @@ is_fine_text bytes = option_map_or is_utf8 (text_of bytes) true
 abbrev pub is_fine_map : List ℕ → Bool
 is_fine_map bytes = keys_differ (keys_in (entries_of bytes))
 
+-- what the two ask of an item
+abbrev pub is_fine_item : List ℕ → Bool
+is_fine_item bytes = is_fine_text bytes && is_fine_map bytes
+
 -- 1, 2, 3 and 6: the head that is met first breaks one of these
 abbrev pub rule_of : Fault → ℕ
 rule_of Short = 1

@@ -3,11 +3,11 @@
 ghost use Rattle.std.specs.Prelude.{◌≡◌, ◌≤◌, None, IfOk, IfErr};
 ghost use Rattle.std.specs.Str.{is_utf8 as utf8_test};
 ghost use Rattle.cbor_core.specs.Seen.{span_of};
-ghost use Rattle.cbor_core.specs.Rules.{each_inside, is_fine_text, is_fine_map, rule_of, broken_rule};
+ghost use Rattle.cbor_core.specs.Rules.{each_inside, is_fine_text, is_fine_item, rule_of, broken_rule};
 ghost use Rattle.cbor_core.specs.Refusal.{IsRefusal};
 
 use crate::error::{Error, NoMemory};
-use crate::head::{Fault, MAX_DEPTH};
+use crate::head::{Fault, Head, MAX_DEPTH, head_at};
 use crate::item::Item;
 use crate::key::are_keys_different;
 use std::alloc::Global;
@@ -53,19 +53,41 @@ fn texts_are_utf8(item: Item, depth: u32) -> bool
     true
 }
 
-/// Do the keys of each map in the item differ?
-#[tactic(auto, using(crate::proofs::Inside::each_fails, crate::proofs::Inside::each_flat, crate::proofs::Inside::each_deep))]
-fn maps_are_fine(alloc: Global, item: Item, depth: u32) -> Result<bool, NoMemory>
-    ensures { IfOk result (λ fine. fine ≡ each_inside is_fine_map depth (span_of item.entry)) }
+/// Is the item neither a text that is not UTF-8 nor a map with a doubled key?
+#[tactic(auto, unfolding(crate::specs::Rules::is_fine_text, crate::specs::Views::text_of, crate::specs::Views::pairs_of), using(crate::proofs::Inside::no_keys))]
+fn is_alone_fine(alloc: Global, item: Item) -> Result<bool, NoMemory>
+    ensures { IfOk result (λ fine. fine ≡ is_fine_item (span_of item.entry)) }
 {
-    if !are_keys_different(alloc, item.entries())? {
+    let Ok((head, back)) = head_at(item.span()) else {
+        return Ok(true);
+    };
+    match head {
+        Head::Text(_) => Ok(is_utf8(back)),
+        Head::Map(_) => are_keys_different(alloc, item.entries()),
+        Head::Unsigned(_)
+        | Head::Negative(_)
+        | Head::Bytes(_)
+        | Head::List(_)
+        | Head::Tag(_)
+        | Head::Simple(_)
+        | Head::Float
+        | Head::Break => Ok(true),
+    }
+}
+
+/// Is each text in the item UTF-8, and do the keys of each map in it differ?
+#[tactic(auto, using(crate::proofs::Inside::each_fails, crate::proofs::Inside::each_flat, crate::proofs::Inside::each_deep))]
+fn is_fine(alloc: Global, item: Item, depth: u32) -> Result<bool, NoMemory>
+    ensures { IfOk result (λ fine. fine ≡ each_inside is_fine_item depth (span_of item.entry)) }
+{
+    if !is_alone_fine(alloc, item)? {
         return Ok(false);
     }
     if depth == 0 {
         return Ok(true);
     }
     for part in item.inside() {
-        if !maps_are_fine(alloc, part, depth - 1)? {
+        if !is_fine(alloc, part, depth - 1)? {
             return Ok(false);
         }
     }
@@ -92,7 +114,7 @@ fn rule_of(fault: Fault) -> u8
 /// string in chunks, 4 a text that is not UTF-8, 5 a key doubled in a map, 6 more lists, maps and
 /// tags inside one another than `depth`, 7 bytes are left over. Of 1, 2, 3 and 6, which are found
 /// head by head from the front, the one that is met first. And want of memory.
-#[tactic(auto, unfolding(crate::specs::Rules::broken_rule), using(crate::proofs::Inside::before_nothing))]
+#[tactic(auto, unfolding(crate::specs::Rules::broken_rule), using(crate::proofs::Inside::before_nothing, crate::proofs::Inside::fine_texts, crate::proofs::Inside::fine_maps, crate::proofs::Inside::wrong_maps))]
 pub fn read_one<'a>(alloc: Global, bytes: &'a [u8], depth: u32) -> Result<Item<'a>, Error>
     requires { depth ≤ MAX_DEPTH }
     ensures found { IfOk result (λ item. (broken_rule depth bytes.now ≡ None) × (span_of item ≡ bytes.now)) }
@@ -102,11 +124,9 @@ pub fn read_one<'a>(alloc: Global, bytes: &'a [u8], depth: u32) -> Result<Item<'
         Ok(first) => first,
         Err(fault) => return Err(Error::Refused(rule_of(fault))),
     };
-    if !texts_are_utf8(item, depth) {
-        return Err(Error::Refused(4));
-    }
-    if !maps_are_fine(alloc, item, depth)? {
-        return Err(Error::Refused(5));
+    if !is_fine(alloc, item, depth)? {
+        let rule = if texts_are_utf8(item, depth) { 5 } else { 4 };
+        return Err(Error::Refused(rule));
     }
     if !rest.is_empty() {
         return Err(Error::Refused(7));
