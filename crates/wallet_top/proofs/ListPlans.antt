@@ -1,5 +1,5 @@
 -- How the plan of `list` ends: at a credential, or after all of them.
-use Rattle.std.proofs.Common.{◌≡◌, ◌≤◌, ℕ, Bool, List, ◌∷◌, ◌++◌, map, Option, Some, None, Result, option_map, refl, sym, ap, ◌∙◌, subst}
+use Rattle.std.proofs.Common.{◌≡◌, ◌≤◌, ℕ, Bool, List, ◌∷◌, ◌++◌, Option, Some, None, Result, option_map, sym, ap, ◌∙◌, subst}
 use Rattle.std.specs.Prelude.{IfSome}
 use Rattle.std.specs.List.{list_any}
 use Rattle.std.specs.Option.{option_and_then}
@@ -9,7 +9,7 @@ use Rattle.json_forms.specs.Text.{json_of}
 use Rattle.dcql_query.specs.Query.{Query}
 use Rattle.dcql_query.specs.Meaning.{query_of}
 use Rattle.program_steps.specs.Outcome.{Outcome}
-use Rattle.program_steps.specs.Plan.{Object, file, Step, asks, Plan, plan, file_refusal, unless_refused, first_refusal, outcome_of, ArePassed}
+use Rattle.program_steps.specs.Plan.{Object, file, Step, asks, file_refusal, unless_refused, first_refusal, outcome_of, ArePassed}
 use Rattle.program_steps.specs.Replies.{Stops, StopsWithin}
 use Rattle.program_steps.specs.declared.stop.Stop.{Stop}
 use Rattle.program_steps.proofs.Plans.{stops_past, stops_from, refuses_after}

@@ -1,6 +1,6 @@
 -- `try QUERY TREES`: the numbers of the lines whose claim tree has what a query of one credential asks for
 -- (OpenID for Verifiable Presentations 1.0, sections 6.4.1 and 7).
-use Rattle.std.specs.Prelude.{ℕ, ◌+◌, List, [], ◌∷◌, ◌++◌, Bool, false, Option, Some, None, is_none, if◌then◌else◌, option_and_then, codes}
+use Rattle.std.specs.Prelude.{ℕ, ◌+◌, List, [], ◌∷◌, ◌++◌, Bool, false, Option, Some, is_none, if◌then◌else◌, option_and_then, codes}
 use Rattle.std.specs.Option.{option_map_or}
 use Rattle.std.specs.Str.{is_utf8}
 use Rattle.std.specs.Fmt.{decimal}

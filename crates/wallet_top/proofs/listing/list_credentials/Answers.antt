@@ -1,4 +1,4 @@
-use Rattle.std.proofs.Common.{◌≡◌, ◌∙◌, sym, ap, map, string_bytes, refl, arith, rules}
+use Rattle.std.proofs.Common.{◌∙◌, ap, map, string_bytes, arith}
 use Rattle.std.proofs.lemmas.Result.{err_from_is_err_and}
 use Rattle.serde_json.specs.View.{view}
 use Rattle.program_steps.specs.Replies.{outcome}
@@ -6,7 +6,6 @@ use Rattle.program_steps.proofs.Plans.{blames_file, cause_from}
 use Rattle.wallet_top.specs.Command.{list_credentials, MayAsk}
 use Rattle.wallet_top.specs.Entries.{meant}
 use Rattle.wallet_top.specs.Lines.{replied}
-use Rattle.wallet_top.specs.Listing.{list_end}
 use Rattle.wallet_top.proofs.ListPlans.{listing_stops_told, listing_answers_told, are_read_told, are_listed_told}
 use Rattle.wallet_top.proofs.listing.list_credentials.Goals as goal
 

@@ -1,4 +1,4 @@
-use Rattle.std.proofs.Common.{◌≡◌, refl, inl, inr}
+use Rattle.std.proofs.Common.{refl, inl, inr}
 use Rattle.std.proofs.lemmas.Result.{err_from_is_err_and}
 use Rattle.program_steps.proofs.Plans.{blames_file, cause_from}
 use Rattle.wallet_top.specs.Command.{try_query, MayAsk}
