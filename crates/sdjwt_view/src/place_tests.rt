@@ -94,6 +94,75 @@ fn misplaced(rt: HostRuntime) -> Result<(), Fail> {
     Ok(())
 }
 
+// Each rule that needs no digest of a disclosure, once and once more where it has several parts.
+#[test]
+fn malformed(rt: HostRuntime) -> Result<(), Fail> {
+    let alloc = rt.alloc();
+    for (payload, disclosures, rule) in [
+        (r#"{"_sd_alg":null,"vct":"t"}"#, &[] as &[&str], 4),
+        (r#"{"_sd_alg":"SHA-256","vct":"t"}"#, &[] as &[&str], 4),
+        (r#"{"vct":"t"}"#, &[r#"["s"]"#] as &[&str], 6),
+        (r#"{"vct":"t"}"#, &[r#"[1,"e"]"#] as &[&str], 6),
+        (r#"{"vct":"t"}"#, &[r#"["s",1,2]"#] as &[&str], 6),
+        (r#"{"vct":"t"}"#, &[r#"["s","a",1,2]"#] as &[&str], 6),
+        (r#"{"vct":"t"}"#, &[INNER, "x"] as &[&str], 6),
+        (r#"{"vct":"t"}"#, &[r#"["s","...",1]"#] as &[&str], 7),
+        (r#"{"_sd":["d",1],"vct":"t"}"#, &[] as &[&str], 8),
+        (r#"{"_sd":null,"vct":"t"}"#, &[] as &[&str], 8),
+        (r#"{"o":[{"_sd":{}}],"vct":"t"}"#, &[] as &[&str], 8),
+        (r#"{"l":[{"...":1}],"vct":"t"}"#, &[] as &[&str], 8),
+        (
+            r#"{"l":[{"...":"d","x":1}],"vct":"t"}"#,
+            &[] as &[&str],
+            8,
+        ),
+        (r#"{"o":{"...":"d"},"vct":"t"}"#, &[] as &[&str], 8),
+        (r#"{"vct":"t"}"#, &[r#"["s",{"...":"d"}]"#] as &[&str], 8),
+        (
+            r#"{"l":[{"...":"d"},{"...":"d"}],"vct":"t"}"#,
+            &[] as &[&str],
+            9,
+        ),
+        (r#"{"vct":1}"#, &[] as &[&str], 15),
+        (r#"{"exp":null,"vct":"t"}"#, &[] as &[&str], 16),
+        (r#"{"nbf":1.0,"vct":"t"}"#, &[] as &[&str], 16),
+        (r#"{"exp":"1","vct":"t"}"#, &[] as &[&str], 16),
+        (r#"{"cnf":null,"vct":"t"}"#, &[] as &[&str], 17),
+        (r#"{"cnf":{"jwk":[]},"vct":"t"}"#, &[] as &[&str], 17),
+        (
+            r#"{"cnf":{"jwk":{"x":[1,1e3]}},"vct":"t"}"#,
+            &[] as &[&str],
+            17,
+        ),
+    ] {
+        let text = issued(alloc, payload, disclosures)?;
+        match SdCredential::read(alloc, text.as_str()) {
+            Ok(_) => assert!(rt; false, "{payload} is read"),
+            Err(got) => assert_eq!(rt; got, Error::Refused(rule), "{payload}"),
+        }
+    }
+    Ok(())
+}
+
+// Payloads at the limits of the rules, with the number of the root's members.
+#[test]
+fn well_formed(rt: HostRuntime) -> Result<(), Fail> {
+    let alloc = rt.alloc();
+    for (payload, len) in [
+        (r#"{"vct":""}"#, 1),
+        (r#"{"_sd":[],"_sd_alg":"sha-256","vct":"t"}"#, 1),
+        (r#"{"cnf":{},"exp":18446744073709551615,"vct":"t"}"#, 3),
+        (r#"{"cnf":{"jwk":{}},"nbf":0,"vct":"t"}"#, 3),
+        (r#"{"a":{"_sd_alg":1},"l":[{"...":"d"},{}],"vct":"t"}"#, 3),
+        (r#"{"iss":1,"status":2,"vct":1,"vct":"t"}"#, 3),
+    ] {
+        let text = issued(alloc, payload, &[])?;
+        let credential = SdCredential::read(alloc, text.as_str())?;
+        assert_eq!(rt; credential.root().len(), len, "{payload}");
+    }
+    Ok(())
+}
+
 #[test]
 fn disclosed_inside_disclosed(rt: HostRuntime) -> Result<(), Fail> {
     let alloc = rt.alloc();
