@@ -1,5 +1,5 @@
 -- The mobile security object (ISO/IEC 18013-5, section 9.1.2.4): what an issuer signs, and its rules.
-use Rattle.std.specs.Prelude.{ℕ, suc, Bool, false, not, ◌||◌, ◌==◌, List, [], ◌∷◌, codes, Option, None, option_map, option_and_then, is_none, if◌then◌else◌}
+use Rattle.std.specs.Prelude.{ℕ, suc, Bool, true, false, not, ◌||◌, ◌==◌, List, [], ◌∷◌, codes, Option, None, option_map, option_and_then, is_none, if◌then◌else◌}
 use Rattle.std.specs.Option.{option_map_or}
 use Rattle.std.specs.Str.{bytes_eq}
 use Rattle.rule_tables.specs.Rules.{rule, first}
@@ -63,8 +63,9 @@ past_in o = option_map suc (last_in o)
 abbrev pub has_version : Entries → Bool
 has_version entries = option_map_or (λ text. bytes_eq text (codes "1.0")) (text_at (codes "version") entries) false
 
+-- no device key, or one that is not of the form
 abbrev pub has_wrong_key : Entries → Bool
-has_wrong_key entries = option_map_or (λ key. not (is_key key)) (device_key_in entries) false
+has_wrong_key entries = option_map_or (λ key. not (is_key key)) (device_key_in entries) true
 
 -- rules 5 to 8: version, hash, dates, the device's key
 unfoldable pub object_rule : Object → Option ℕ

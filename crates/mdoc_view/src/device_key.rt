@@ -24,13 +24,13 @@ pub fn holder_of(alloc: Global, map: Item) -> Result<Option<KeyName>, NoMemory>
     }
 }
 
-/// Whether there is a key, and it is no map from integers or texts to integers, texts, byte strings or truth values.
+/// Whether there is no key, or it is no map from integers or texts to integers, texts, byte strings or truth values.
 pub fn has_wrong_key(map: Item) -> bool
     ensures { result ≡ has_wrong_key (entries_of (span_of map.entry)) }
 {
     match device_key_in(map) {
         Some(key) => !is_key(key),
-        None => false,
+        None => true,
     }
 }
 
