@@ -1,4 +1,4 @@
-use Rattle.std.proofs.Common.{◌≡◌, codes, option_map, sym, ap, ◌∙◌}
+use Rattle.std.proofs.Common.{codes, option_map, sym, ap, ◌∙◌}
 use Rattle.std.specs.Option.{option_or}
 use Rattle.cbor_core.specs.Seen.{span_of, entries_left}
 use Rattle.cbor_core.specs.Views.{find_in}
