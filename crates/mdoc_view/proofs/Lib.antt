@@ -9,4 +9,5 @@ mod KeyPairs
 mod PutValues
 mod ValueClaims
 mod Levels
+mod Naming
 mod ReadSteps

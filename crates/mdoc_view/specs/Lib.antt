@@ -6,6 +6,7 @@ pub mod Object
 pub mod Key
 pub mod Pairs
 pub mod Items
+pub mod Members
 pub mod Prefixed
 pub mod Parts
 pub mod Value

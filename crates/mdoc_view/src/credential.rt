@@ -42,9 +42,9 @@ impl<'t> MdCredential<'t> {
     /// `issuerAuth` breaks as a signed message with its payload inside, where the bytes have the form of rule 2; else
     /// `Refused` with the first of the rules that they break: 2 a map with `issuerAuth`, and with `nameSpaces` from texts to
     /// lists of embedded items, if it is there; 4 the form of the mobile security object in the payload; 5 its version is
-    /// `1.0`; 6 a hash that is known; 7 its dates; 8 that it
-    /// has a device key, of its form; 9 at most 1,024 signed items; 10 the form of each; 11
-    /// no element twice in a namespace; 12 a digest for each item; 13 that is the item's own. And want of memory.
+    /// `1.0`; 6 a hash that is known; 7 its dates; 8 it has a device key, which is of the form; 9 at most 1,024 signed items;
+    /// 10 the form of each; 11 no element twice in a namespace; 12 a digest for each item; 13 that is the item's own. And want
+    /// of memory.
     pub fn read(alloc: Global, bytes: &'t [u8]) -> Result<MdCredential<'t>, Error>
         ensures sound { IfOk result (λ _. refusal_of bytes.now ≡ None) }
         ensures read { IfOk result (λ c. credential_in bytes.now ≡ Some (meaning c)) }
@@ -64,7 +64,7 @@ impl<'t> MdCredential<'t> {
         MdNode::new(&self.root)
     }
 
-    /// What it says of itself, as its issuer signed it. There is always a holder, as a document without a device key is refused.
+    /// What it says of itself, as its issuer signed it. There is always a holder: a document without a device key is refused.
     pub fn facts<'a>(&'a self) -> Facts<'a>
         ensures kind { result.kind.now ≡ (meaning self.now).kind }
         ensures issuer { result.issuer.now ≡ (meaning self.now).issuer }

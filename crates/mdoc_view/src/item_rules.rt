@@ -1,5 +1,6 @@
 // The rules on elements and digests.
-ghost use Rattle.std.specs.Prelude.{◌≡◌, not, IfOk, map};
+ghost use Rattle.std.specs.Prelude.{◌≡◌, not, IfOk, map, [], ◌∷◌};
+ghost use Rattle.rule_tables.specs.Rules.{rule, first};
 ghost use Rattle.std.specs.List.{list_any, list_all};
 ghost use Rattle.cbor_core.specs.Seen.{span_of};
 ghost use Rattle.cbor_core.specs.Views.{entries_of};
@@ -59,13 +60,7 @@ fn digests_rule<'t>(
         return Ok(Some(11));
     }
     let digests = Digests::new(alloc, digests)?;
-    if any_lacks(alloc, &digests, namespaces)? {
-        return Ok(Some(12));
-    }
-    if any_deviates(alloc, hash, &digests, namespaces)? {
-        return Ok(Some(13));
-    }
-    Ok(None)
+    digest_rule(alloc, hash, &digests, namespaces)
 }
 
 fn all_differ(alloc: Global, namespaces: &[Namespace]) -> Result<bool, AllocError>
@@ -96,20 +91,29 @@ fn elements<'t>(alloc: Global, items: &[Signed<'t>]) -> Result<Vec<&'t str>, All
     Ok(elements)
 }
 
-fn any_lacks<'t>(
+// The first that is broken of the rules that each item has a digest, and that it is the item's own. The digests of a
+// namespace are put in order once for both.
+#[tactic(auto, unfolding(rule_tables::specs::Rules::rule))]
+fn digest_rule<'t>(
     alloc: Global,
+    hash: HashName,
     digests: &Digests<'t>,
     namespaces: &[Namespace<'t>],
-) -> Result<bool, AllocError>
-    ensures { IfOk result (λ b. b ≡ list_any (any_item (lacks (entries_of (span_of digests.now.source)))) (map said_namespace namespaces.now)) }
+) -> Result<Option<u8>, AllocError>
+    ensures { IfOk result (λ o. o ≡ first
+        (rule 12 (list_any (any_item (lacks (entries_of (span_of digests.now.source)))) (map said_namespace namespaces.now))
+        ∷ rule 13 (list_any (any_item (deviates hash (entries_of (span_of digests.now.source)))) (map said_namespace namespaces.now))
+        ∷ [])) }
 {
+    let mut deviate = false;
     for namespace in namespaces {
         let numbers = digests.under(alloc, namespace.name)?;
         if any_item_lacks(&numbers, &namespace.items) {
-            return Ok(true);
+            return Ok(Some(12));
         }
+        deviate = deviate || any_item_deviates(hash, &numbers, &namespace.items);
     }
-    Ok(false)
+    if deviate { Ok(Some(13)) } else { Ok(None) }
 }
 
 fn any_item_lacks<'t>(numbers: &Numbers<'t>, items: &[Signed<'t>]) -> bool
@@ -121,23 +125,6 @@ fn any_item_lacks<'t>(numbers: &Numbers<'t>, items: &[Signed<'t>]) -> bool
         }
     }
     false
-}
-
-fn any_deviates<'t>(
-    alloc: Global,
-    hash: HashName,
-    digests: &Digests<'t>,
-    namespaces: &[Namespace<'t>],
-) -> Result<bool, AllocError>
-    ensures { IfOk result (λ b. b ≡ list_any (any_item (deviates hash (entries_of (span_of digests.now.source)))) (map said_namespace namespaces.now)) }
-{
-    for namespace in namespaces {
-        let numbers = digests.under(alloc, namespace.name)?;
-        if any_item_deviates(hash, &numbers, &namespace.items) {
-            return Ok(true);
-        }
-    }
-    Ok(false)
 }
 
 fn any_item_deviates<'t>(hash: HashName, numbers: &Numbers<'t>, items: &[Signed<'t>]) -> bool

@@ -6,7 +6,8 @@ ghost use Rattle.mdoc_view.specs.Items.{signed_in, signed_by, all_signed, namesp
 ghost use Rattle.mdoc_view.specs.Parts.{said_signed, said_namespace, entries_in};
 
 use crate::error::NoMemory;
-use crate::looks::{bytes_at, embedded, natural_at, read_map, text_at};
+use crate::looks::{embedded, natural, read_map};
+use crate::members::Members;
 use cbor_core::Item;
 use std::alloc::Global;
 
@@ -137,10 +138,11 @@ fn read_item<'t>(alloc: Global, item: Item<'t>) -> Result<Option<Signed<'t>>, No
 fn signed_by<'t>(span: &'t [u8], map: Item<'t>) -> Option<Signed<'t>>
     ensures { option_map said_signed result ≡ signed_by span.now (entries_of (span_of map.entry)) }
 {
-    let number = natural_at(map, "digestID")?;
-    let _random = bytes_at(map, "random")?;
-    let element = text_at(map, "elementIdentifier")?;
-    let value = map.find("elementValue")?;
+    let members = Members::of(map);
+    let number = natural(members.number?)?;
+    let _random = members.random?.bytes()?;
+    let element = members.element?.text()?;
+    let value = members.value?;
     Some(Signed {
         span,
         number,

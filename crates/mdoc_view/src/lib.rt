@@ -10,6 +10,7 @@ mod issued;
 mod item_rules;
 mod items;
 mod looks;
+mod members;
 mod node;
 mod object;
 mod reader;

@@ -2,7 +2,7 @@
 ghost use Rattle.std.specs.Prelude.{◌≡◌, IfOk, option_map};
 ghost use Rattle.cbor_core.specs.Seen.{span_of};
 ghost use Rattle.cbor_core.specs.Views.{kind_of, entries_of};
-ghost use Rattle.mdoc_view.specs.Looks.{is_map, is_list, natural_of, map_of, text_at, natural_at, bytes_at, map_at, one_map, embedded};
+ghost use Rattle.mdoc_view.specs.Looks.{is_map, is_list, natural_of, map_of, text_at, map_at, one_map, embedded};
 
 use crate::error::NoMemory;
 use cbor_core::{Item, Kind, read_one};
@@ -49,20 +49,6 @@ pub fn text_at<'t>(map: Item<'t>, name: &str) -> Option<&'t str>
     ensures { option_map (λ s. s.now) result ≡ text_at name.now (entries_of (span_of map.entry)) }
 {
     map.find(name)?.text()
-}
-
-/// The whole number from 0 under a name in a map.
-pub fn natural_at(map: Item, name: &str) -> Option<u64>
-    ensures { result ≡ natural_at name.now (entries_of (span_of map.entry)) }
-{
-    natural(map.find(name)?)
-}
-
-/// The byte string under a name in a map.
-pub fn bytes_at<'t>(map: Item<'t>, name: &str) -> Option<&'t [u8]>
-    ensures { option_map (λ b. b.now) result ≡ bytes_at name.now (entries_of (span_of map.entry)) }
-{
-    map.find(name)?.bytes()
 }
 
 /// The map under a name in a map.
