@@ -15,6 +15,11 @@ unfoldable pub each_inside : (List ℕ → Bool) → ℕ → List ℕ → Bool
 each_inside test zero bytes = test bytes
 each_inside test (suc depth) bytes = test bytes && list_all (each_inside test depth) (items_in (inside_of bytes))
 
+-- the same of an item that lies in one of which depth counts
+abbrev pub each_below : (List ℕ → Bool) → ℕ → List ℕ → Bool
+each_below test zero = λ _. true
+each_below test (suc depth) = each_inside test depth
+
 -- no text that is not UTF-8
 unfoldable pub is_fine_text : List ℕ → Bool
 is_fine_text bytes = option_map_or is_utf8 (text_of bytes) true

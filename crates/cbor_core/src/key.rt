@@ -1,14 +1,12 @@
 //! The keys of a map, and whether one of them is doubled.
 
-ghost use Rattle.std.specs.Prelude.{◌≡◌, ◌∷◌, IfOk, map};
-ghost use Rattle.cbor_core.specs.Keys.{key_of, same_key, keys_differ, neighbours_differ, keys_in};
-ghost use Rattle.cbor_core.specs.Seen.{span_of, entries_left};
+ghost use Rattle.std.specs.Prelude.{◌≡◌, ◌∷◌, map};
+ghost use Rattle.cbor_core.specs.Keys.{key_of, same_key, keys_differ, neighbours_differ};
+ghost use Rattle.cbor_core.specs.Seen.{span_of};
 ghost use Rattle.cbor_core.specs.KeySeen.{meaning_of};
 
-use crate::error::NoMemory;
 use crate::head::{Head, head_at};
-use crate::item::{Entries, Item};
-use std::alloc::Global;
+use crate::item::Item;
 
 /// A key as keys are compared: two are the same where this is equal.
 #[derive(Clone, Copy, PartialEq, Eq, PartialOrd, Ord)]
@@ -22,7 +20,7 @@ pub enum Key<'a> {
 
 /// What the item is as a key.
 #[tactic(auto, unfolding(crate::specs::Keys::key_of))]
-fn key_of<'a>(item: Item<'a>) -> Key<'a>
+pub(crate) fn key_of<'a>(item: Item<'a>) -> Key<'a>
     ensures { meaning_of result ≡ key_of (span_of item.entry) }
 {
     let bytes = item.span();
@@ -36,17 +34,6 @@ fn key_of<'a>(item: Item<'a>) -> Key<'a>
         Head::Bytes(_) => Key::Bytes(back),
         _ => Key::Other(bytes),
     }
-}
-
-/// The keys of some entries, in their order.
-fn keys_of<'a>(alloc: Global, entries: Entries<'a>) -> Result<Vec<Key<'a>>, NoMemory>
-    ensures { IfOk result (λ v. map meaning_of v.items ≡ keys_in (entries_left entries.entry)) }
-{
-    let mut keys = Vec::new(alloc);
-    for (key, _) in entries {
-        keys.push(key_of(key))?;
-    }
-    Ok(keys)
 }
 
 /// Whether the two are the same key.
@@ -74,10 +61,10 @@ fn neighbours_differ(keys: &[Key]) -> bool
 }
 
 /// Whether no key comes twice. The keys are sorted, so that the time is linear up to a logarithm.
-pub(crate) fn are_keys_different(alloc: Global, entries: Entries) -> Result<bool, NoMemory>
-    ensures { IfOk result (λ differ. differ ≡ keys_differ (keys_in (entries_left entries.entry))) }
+pub(crate) fn are_different(keys: Vec<Key>) -> bool
+    ensures { result ≡ keys_differ (map meaning_of keys.entry.items) }
 {
-    let mut keys = keys_of(alloc, entries)?;
+    let mut keys = keys;
     keys.sort_unstable();
-    Ok(neighbours_differ(&keys))
+    neighbours_differ(&keys)
 }

@@ -1,15 +1,18 @@
 //! Reading one item.
 
-ghost use Rattle.std.specs.Prelude.{◌≡◌, ◌≤◌, None, IfOk, IfErr};
+ghost use Rattle.std.specs.Prelude.{◌≡◌, ◌≤◌, ◌&&◌, None, IfOk, IfErr};
+ghost use Rattle.std.specs.List.{list_all};
 ghost use Rattle.std.specs.Str.{is_utf8 as utf8_test};
-ghost use Rattle.cbor_core.specs.Seen.{span_of};
-ghost use Rattle.cbor_core.specs.Rules.{each_inside, is_fine_text, is_fine_item, rule_of, broken_rule};
+ghost use Rattle.cbor_core.specs.Seen.{span_of, items_left};
+ghost use Rattle.cbor_core.specs.Views.{pair_up};
+ghost use Rattle.cbor_core.specs.Keys.{keys_differ, keys_in};
+ghost use Rattle.cbor_core.specs.Rules.{each_inside, each_below, is_fine_text, is_fine_item, rule_of, broken_rule};
 ghost use Rattle.cbor_core.specs.Refusal.{IsRefusal};
 
 use crate::error::{Error, NoMemory};
 use crate::head::{Fault, Head, MAX_DEPTH, head_at};
-use crate::item::Item;
-use crate::key::are_keys_different;
+use crate::item::{Item, Items};
+use crate::key::{are_different, key_of};
 use std::alloc::Global;
 use std::str;
 
@@ -53,45 +56,70 @@ fn texts_are_utf8(item: Item, depth: u32) -> bool
     true
 }
 
-/// Is the item neither a text that is not UTF-8 nor a map with a doubled key?
-#[tactic(auto, unfolding(crate::specs::Rules::is_fine_text, crate::specs::Views::text_of, crate::specs::Views::pairs_of), using(crate::proofs::Inside::no_keys))]
-fn is_alone_fine(alloc: Global, item: Item) -> Result<bool, NoMemory>
-    ensures { IfOk result (λ fine. fine ≡ is_fine_item (span_of item.entry)) }
+/// Is each text in the item UTF-8, and do the keys of each map in it differ?
+#[cycle(is_fine)]
+fn is_fine(alloc: Global, item: Item, depth: u32) -> Result<bool, NoMemory>
+    ensures { IfOk result (λ fine. fine ≡ each_inside is_fine_item depth (span_of item.entry)) }
 {
     let Ok((head, back)) = head_at(item.span()) else {
         return Ok(true);
     };
     match head {
         Head::Text(_) => Ok(is_utf8(back)),
-        Head::Map(_) => are_keys_different(alloc, item.entries()),
+        Head::List(_) | Head::Tag(_) => are_fine(alloc, item.inside(), depth),
+        Head::Map(_) => are_entries_fine(alloc, item.inside(), depth),
         Head::Unsigned(_)
         | Head::Negative(_)
         | Head::Bytes(_)
-        | Head::List(_)
-        | Head::Tag(_)
         | Head::Simple(_)
         | Head::Float
         | Head::Break => Ok(true),
     }
 }
 
-/// Is each text in the item UTF-8, and do the keys of each map in it differ?
-#[tactic(auto, using(crate::proofs::Inside::each_fails, crate::proofs::Inside::each_flat, crate::proofs::Inside::each_deep))]
-fn is_fine(alloc: Global, item: Item, depth: u32) -> Result<bool, NoMemory>
-    ensures { IfOk result (λ fine. fine ≡ each_inside is_fine_item depth (span_of item.entry)) }
+/// The same of an item that lies in one of which `depth` was allowed.
+#[cycle(is_fine)]
+fn is_fine_below(alloc: Global, item: Item, depth: u32) -> Result<bool, NoMemory>
+    ensures { IfOk result (λ fine. fine ≡ each_below is_fine_item depth (span_of item.entry)) }
 {
-    if !is_alone_fine(alloc, item)? {
-        return Ok(false);
-    }
     if depth == 0 {
         return Ok(true);
     }
-    for part in item.inside() {
-        if !is_fine(alloc, part, depth - 1)? {
+    is_fine(alloc, item, depth - 1)
+}
+
+#[cycle(is_fine)]
+fn are_fine(alloc: Global, items: Items, depth: u32) -> Result<bool, NoMemory>
+    ensures { IfOk result (λ fine. fine ≡ list_all (each_below is_fine_item depth) (items_left items.entry)) }
+{
+    for item in items {
+        if !is_fine_below(alloc, item, depth)? {
             return Ok(false);
         }
     }
     Ok(true)
+}
+
+/// The same of keys and values in turn, of which no two keys may be the same.
+#[cycle(is_fine)]
+fn are_entries_fine(alloc: Global, items: Items, depth: u32) -> Result<bool, NoMemory>
+    ensures { IfOk result (λ fine. fine ≡ (list_all (each_below is_fine_item depth) (items_left items.entry) && keys_differ (keys_in (pair_up (items_left items.entry))))) }
+{
+    let mut keys = Vec::new(alloc);
+    let mut last_key = None;
+    for item in items {
+        if !is_fine_below(alloc, item, depth)? {
+            return Ok(false);
+        }
+        match last_key {
+            None => last_key = Some(key_of(item)),
+            Some(key) => {
+                keys.push(key)?;
+                last_key = None;
+            }
+        }
+    }
+    Ok(are_different(keys))
 }
 
 fn rule_of(fault: Fault) -> u8

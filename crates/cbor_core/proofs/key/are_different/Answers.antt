@@ -8,7 +8,7 @@ use Rattle.cbor_core.specs.contracts.key.KeyOrd.TheImpl.Laws.{total-law}
 use Rattle.cbor_core.specs.Keys.{same_key, keys_differ, neighbours_differ}
 use Rattle.cbor_core.specs.KeySeen.{meaning_of}
 use Rattle.cbor_core.proofs.Keys.{neighbours_decide}
-use Rattle.cbor_core.proofs.key.are_keys_different.Goals as goal
+use Rattle.cbor_core.proofs.key.are_different.Goals as goal
 
 -- the order of keys ties those that are the same
 same : (a b : Key) → eq_by_cmp cmp-value.it a b ≡ same_key (meaning_of a) (meaning_of b)
@@ -33,5 +33,4 @@ pub returns : goal.returns
 returns c =
     c.neighbours_differ.ensures
     ∙ ap (λ ks. neighbours_differ (map meaning_of ks)) c.deref.ensures.value
-    ∙ neighbours_decide _ total-law meaning_of same c.in_ok-keys.keys.items c.sort_unstable.new.self.items c.sort_unstable.ensures.permutation c.sort_unstable.ensures.sorted
-    ∙ ap keys_differ c.in_ok-keys.ensures
+    ∙ neighbours_decide _ total-law meaning_of same c.args.keys.items c.sort_unstable.new.self.items c.sort_unstable.ensures.permutation c.sort_unstable.ensures.sorted
