@@ -8,4 +8,5 @@ pub mod Written
 pub mod Steady
 pub mod Keys
 pub mod Ordered
+pub mod Small
 pub mod Counts

@@ -32,6 +32,7 @@ pub enum Head {
     Break,
 }
 
+#[inline]
 fn u8_at(bytes: &[u8]) -> Result<(u64, &[u8]), Fault>
     ensures { Gives (λ x. (x.0, x.1.now)) result (number_at w8 bytes.now) }
 {
@@ -43,6 +44,7 @@ fn u8_at(bytes: &[u8]) -> Result<(u64, &[u8]), Fault>
     Ok((u64::from(number), rest))
 }
 
+#[inline]
 fn u16_at(bytes: &[u8]) -> Result<(u64, &[u8]), Fault>
     ensures { Gives (λ x. (x.0, x.1.now)) result (number_at w16 bytes.now) }
 {
@@ -54,6 +56,7 @@ fn u16_at(bytes: &[u8]) -> Result<(u64, &[u8]), Fault>
     Ok((u64::from(number), rest))
 }
 
+#[inline]
 fn u32_at(bytes: &[u8]) -> Result<(u64, &[u8]), Fault>
     ensures { Gives (λ x. (x.0, x.1.now)) result (number_at w32 bytes.now) }
 {
@@ -65,6 +68,7 @@ fn u32_at(bytes: &[u8]) -> Result<(u64, &[u8]), Fault>
     Ok((u64::from(number), rest))
 }
 
+#[inline]
 fn u64_at(bytes: &[u8]) -> Result<(u64, &[u8]), Fault>
     ensures { Gives (λ x. (x.0, x.1.now)) result (number_at w64 bytes.now) }
 {
@@ -80,6 +84,7 @@ fn u64_at(bytes: &[u8]) -> Result<(u64, &[u8]), Fault>
 
 /// The argument of a head whose additional information is `info`.
 #[tactic(auto, unfolding(crate::specs::Head::argument_at))]
+#[inline]
 fn argument_at(info: u8, bytes: &[u8]) -> Result<(u64, &[u8]), Fault>
     ensures { Gives (λ x. (x.0, x.1.now)) result (argument_at info bytes.now) }
 {
@@ -97,6 +102,7 @@ fn argument_at(info: u8, bytes: &[u8]) -> Result<(u64, &[u8]), Fault>
 
 /// The head of a major type with an argument.
 #[tactic(auto, unfolding(crate::specs::Head::head_of))]
+#[inline]
 fn head_of(major: u8, info: u8, argument: u64) -> Result<Head, Fault>
     requires { major < 8 }
     ensures { Gives (λ h. h) result (head_of major info argument) }
@@ -124,6 +130,7 @@ fn head_of(major: u8, info: u8, argument: u64) -> Result<Head, Fault>
 
 /// The head of a major type with no argument.
 #[tactic(auto, unfolding(crate::specs::Head::open_head_of))]
+#[inline]
 fn open_head_of(major: u8) -> Result<Head, Fault>
     requires { major < 8 }
     ensures { Gives (λ h. h) result (open_head_of major) }
@@ -139,6 +146,7 @@ fn open_head_of(major: u8) -> Result<Head, Fault>
 
 /// The head at the front, and the bytes after it.
 #[tactic(auto, unfolding(crate::specs::Head::head_at))]
+#[inline]
 pub fn head_at(bytes: &[u8]) -> Result<(Head, &[u8]), Fault>
     ensures { Gives (λ x. (x.0, x.1.now)) result (head_at bytes.now) }
 {
