@@ -22,7 +22,7 @@ use serde_json::{Map, Number, Value};
 use std::alloc::{AllocError, Global};
 use std::collections::BTreeMap;
 
-/// None where the value has more than so many lists and records inside one Other.
+/// None where the value has more than so many lists and records inside one another.
 #[cycle(spell)]
 pub fn spell(
     alloc: Global,
