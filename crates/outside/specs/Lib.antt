@@ -1,6 +1,7 @@
 pub mod Causes
 pub mod MemorySink
 pub mod MemoryStore
+pub mod Real
 pub mod Sink
 pub mod Status
 pub mod Store

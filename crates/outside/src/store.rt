@@ -1,6 +1,6 @@
 // Named files that can be read.
 ghost use Rattle.std.specs.Prelude.{◌≡◌, ◌≤◌, List, ℕ, Option, length, IfOk, IfSome};
-ghost use Rattle.outside.specs.Store.{Files, Reads, HasReadCause};
+ghost use Rattle.outside.specs.Store.{Files, Names, Reads, Asks, HasReadCause};
 
 use super::error::StoreError;
 use std::alloc::Global;
@@ -14,6 +14,9 @@ pub trait Store {
     /// name failed. A store may count a fault of one name for the others too.
     ghost faults: { Self → List ℕ → ℕ };
 
+    /// The names that reads were asked for, in their order, where the store tells them.
+    ghost asked: { Self → Option Names };
+
     /// The bytes of a file that has no more than `limit` of them.
     ///
     /// # Errors
@@ -24,6 +27,7 @@ pub trait Store {
         ensures same { files self.new ≡ files self.old }
         ensures within { IfOk result (λ bytes. length bytes.items ≤ limit) }
         ensures file { IfSome (files self.old) (λ told. Reads (told name.now) limit result) }
+        ensures asked { Asks (asked self.old) (asked self.new) name.now result }
         ensures later { (other : List ℕ) → faults self.old other ≤ faults self.new other }
         ensures cause { HasReadCause (faults self.old name.now) (faults self.new name.now) result };
 }
