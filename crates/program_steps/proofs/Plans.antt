@@ -64,7 +64,7 @@ stops_within_past before after object refusal steps stop passed stops = λ later
 
 -- ---- causes
 
-rose_from : (first before after : ℕ) → first ≤ before → Rose before after → Rose first after
+pub rose_from : (first before after : ℕ) → first ≤ before → Rose before after → Rose first after
 rose_from first before after earlier rose = omega arith
 
 -- what was counted since a later moment was counted since an earlier one

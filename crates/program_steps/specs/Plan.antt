@@ -1,6 +1,7 @@
 -- What a command asks of the objects that are passed in, in its order, and what it answers.
 use Rattle.std.specs.Prelude.{◌≡◌, ◌⊎◌, ℕ, List, [], ◌∷◌, length, Option, Some, None, if◌then◌else◌, nat_lt, option_map, ⊤}
 use Rattle.outside.specs.Causes.{Rose}
+use Rattle.outside.specs.Store.{Names}
 use Rattle.program_steps.specs.Outcome.{Outcome, read_fault, too_long, file_refused}
 
 -- An object that a command asks, and what it asks it for: of the store, a file. Each further object is a case here.
@@ -94,3 +95,14 @@ abbrev pub asked : List Step → List Object
 asked [] = []
 asked (asks object refusal ∷ steps) = object ∷ asked steps
 asked (looks refusal ∷ steps) = asked steps
+
+-- these names, unless a refusal has ended the command
+abbrev pub unless_ended : Option Outcome → Names → Names
+unless_ended None names = names
+unless_ended (Some refusal) names = []
+
+-- the names of the files that steps ask, up to the first step that refuses
+abbrev pub reached : List Step → Names
+reached [] = []
+reached (asks (file name) refusal ∷ steps) = name ∷ unless_ended refusal (reached steps)
+reached (looks refusal ∷ steps) = unless_ended refusal (reached steps)

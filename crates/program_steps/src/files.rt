@@ -1,5 +1,6 @@
 // The reading of a file.
-ghost use Rattle.std.specs.Prelude.{◌≡◌, ◌≤◌, ℕ, List, Some, length, IfOk, IfErr, IfSome, option_map};
+ghost use Rattle.std.specs.Prelude.{◌≡◌, ◌≤◌, ◌∷◌, [], ℕ, List, Some, length, IfOk, IfErr, IfSome, option_map};
+ghost use Rattle.program_steps.specs.Asking.{AsksFor};
 ghost use Rattle.program_steps.specs.Outcome.{too_long};
 ghost use Rattle.program_steps.specs.Reading.{within_limit, text_in};
 ghost use Rattle.program_steps.specs.Replies.{Refuses, IsReadCause};
@@ -22,6 +23,7 @@ pub fn read_file<S: Store>(
 ) -> Result<Vec<u8>, Stop>
     ensures same { S.files store.new ≡ S.files store.old }
     ensures later { (other : List ℕ) → S.faults store.old other ≤ S.faults store.new other }
+    ensures asked { AsksFor (S.faults store.old) (S.faults store.new) (S.asked store.old) (S.asked store.new) (name.now ∷ []) result }
     ensures within { IfOk result (λ bytes. length bytes.items ≤ limit) }
     ensures file { IfSome (S.files store.old) (λ files. IfOk result (λ bytes. files name.now ≡ Some bytes.items)) }
     ensures refusal { IfSome (S.files store.old) (λ files. IfErr result (λ stop. Refuses (within_limit limit name.now (files name.now)) stop)) }

@@ -18,3 +18,6 @@ pub use lines::cut_line;
 pub use refusals::{file_refused, query_refused, too_long};
 pub use reply::Reply;
 pub use stop::{Fault, Stop};
+
+#[cfg(test)]
+mod tests;
