@@ -22,7 +22,6 @@ pub use algorithm::{Alg, SignAlg};
 pub use error::{Error, NoMemory};
 pub use facts::{Facts, Format};
 pub use key_name::KeyName;
-pub use members::put_member;
 pub use name::Name;
 pub use owned::{OwnedElement, OwnedMember, OwnedTree};
 pub use owned_node::OwnedNode;

@@ -3,6 +3,10 @@
 //! Most of the crate is definitions, which the contracts of the readers cite.
 #![tactic(auto)]
 
+pub mod laws;
+#[cfg(test)]
+mod tests;
+
 ghost use Rattle.std.specs.Prelude.{◌≡◌};
 ghost use Rattle.rule_tables.specs.Rules.{lesser as lesser_of};
 
