@@ -1,28 +1,90 @@
-use crate::{DateRule, Error, HashName, from_hex, from_url64, read_tdate, to_hex, to_url64};
+use crate::{
+    DateRule, Error, HashName, from_hex, from_url64, leaf_name, read_tdate, to_hex, to_url64,
+};
+use std::alloc::Global;
 
-// Disclosures and their digests of RFC 9901, and short texts that break one rule each.
+// The test vectors of RFC 4648, section 10, and bytes whose base64url has both its own characters.
 #[test]
-fn forms_of_known_bytes(rt: HostRuntime) {
+fn base64url_of_known_bytes(rt: HostRuntime) {
     let alloc = rt.alloc();
-    let bytes: [u8; 2] = [0xfb, 0xff];
-    let url64 = to_url64(alloc, &bytes).expect(&rt, "base64url");
-    assert_eq!(rt; url64.as_str(), "-_8");
-    let hex = to_hex(alloc, &bytes).expect(&rt, "hexadecimal");
-    assert_eq!(rt; hex.as_str(), "fbff");
-    assert!(rt; from_url64(alloc, "-_8").expect(&rt, "bytes").as_slice() == bytes.as_slice());
-    assert!(rt; from_hex(alloc, "fbff").expect(&rt, "bytes").as_slice() == bytes.as_slice());
-    for (text, rule) in [("-_8=", 1), ("A", 2), ("-_9", 3)] {
+    for (text, wanted) in [
+        ("", ""),
+        ("f", "Zg"),
+        ("fo", "Zm8"),
+        ("foo", "Zm9v"),
+        ("foob", "Zm9vYg"),
+        ("~~~???", "fn5-Pz8_"),
+    ] {
+        assert!(rt; is_url64_of(alloc, wanted, text.as_bytes()), "of {text}");
+    }
+}
+
+// Whether the text is written for the bytes, and these are read from it.
+fn is_url64_of(alloc: Global, text: &str, bytes: &[u8]) -> bool {
+    let is_written = match to_url64(alloc, bytes) {
+        Ok(written) => written.as_str() == text,
+        Err(_) => false,
+    };
+    match from_url64(alloc, text) {
+        Ok(read) => is_written && read.as_slice() == bytes,
+        Err(_) => false,
+    }
+}
+
+#[test]
+fn hexadecimal_of_known_bytes(rt: HostRuntime) {
+    let alloc = rt.alloc();
+    for (text, wanted) in [
+        ("", ""),
+        ("\t", "09"),
+        ("foo", "666f6f"),
+        ("~~~???", "7e7e7e3f3f3f"),
+        ("é", "c3a9"),
+    ] {
+        let digits = to_hex(alloc, text.as_bytes()).expect(&rt, "hexadecimal");
+        assert!(rt; digits.as_str() == wanted, "of {text}");
+        let bytes = from_hex(alloc, wanted).expect(&rt, "bytes");
+        assert!(rt; bytes.as_slice() == text.as_bytes(), "of {wanted}");
+    }
+}
+
+// Texts that break one rule each; and two that break more, of which the first is answered.
+#[test]
+fn texts_that_are_no_form(rt: HostRuntime) {
+    let alloc = rt.alloc();
+    for (text, rule) in [
+        ("Zg==", 1),
+        ("+_8A", 1),
+        ("-/8A", 1),
+        ("Zm9 ", 1),
+        ("Zm9v\n", 1),
+        ("é", 1),
+        ("A", 2),
+        ("Zm9vA", 2),
+        ("Zh", 3),
+        ("Zv", 3),
+        ("Zm9", 3),
+        ("Zm9vZm9", 3),
+        ("=", 1),
+        ("Z=", 1),
+    ] {
         assert!(rt;
             from_url64(alloc, text) == Err(Error::Refused(rule)),
             "of {text}"
         );
     }
-    for text in ["f", "FBFF", "fg"] {
+    for text in ["f", "666", "6F", "fg", "-1", "é"] {
         assert!(rt;
             from_hex(alloc, text) == Err(Error::Refused(1)),
             "of {text}"
         );
     }
+}
+
+// Disclosures and their digests of RFC 9901, and the digest of `abc` in FIPS 180-4.
+#[test]
+fn digests_by_name(rt: HostRuntime) {
+    let alloc = rt.alloc();
     let hash = HashName::from_text("sha-256").expect(&rt, "a hash");
     for (text, wanted) in [
         (
@@ -38,6 +100,18 @@ fn forms_of_known_bytes(rt: HostRuntime) {
         let spelled = to_url64(alloc, digest.bytes()).expect(&rt, "base64url");
         assert_eq!(rt; spelled.as_str(), wanted);
     }
+    let name = leaf_name(alloc, "abc".as_bytes()).expect(&rt, "a name");
+    assert_eq!(rt;
+        name.as_str(),
+        "x5:ba7816bf8f01cfea414140de5dae2223b00361a396177a9cb410ff61f20015ad"
+    );
+    assert!(rt; HashName::from_mso("SHA-256") == Some(HashName::Sha256));
+    for text in ["", "SHA-256", "sha-384", "sha-256-128", "sha-25"] {
+        assert!(rt; HashName::from_text(text).is_none(), "of {text}");
+    }
+    for text in ["", "sha-256", "SHA-384", "SHA-2561", "SHA-25"] {
+        assert!(rt; HashName::from_mso(text).is_none(), "of {text}");
+    }
 }
 
 // The last second is by the calendar's own count, 2,932,897 days of 86,400 seconds less one.
@@ -46,23 +120,32 @@ fn moments_of_dates(rt: HostRuntime) {
     for (text, wanted) in [
         ("2025-06-15T15:06:40Z", Ok(1_750_000_000)),
         ("1970-01-01T00:00:00Z", Ok(0)),
+        ("2000-02-29T00:00:00Z", Ok(951_782_400)),
         ("2024-02-29T23:59:59Z", Ok(1_709_251_199)),
         ("9999-12-31T23:59:59Z", Ok(253_402_300_799)),
-        ("2025-06-15 15:06:40Z", Err(DateRule::Form)),
-        ("2025-06-15T15:06:40z", Err(DateRule::Form)),
-        ("2025-06-15T15:06:40.0Z", Err(DateRule::Form)),
-        ("2025-06-15T15:06:4٣Z", Err(DateRule::Form)),
         ("", Err(DateRule::Form)),
-        ("2025-02-29T00:00:00Z", Err(DateRule::NoSuch)),
-        ("2025-00-10T00:00:00Z", Err(DateRule::NoSuch)),
+        ("2025-06-15", Err(DateRule::Form)),
+        ("2025-06-15T15:06:40", Err(DateRule::Form)),
+        ("2025-06-15T15:06:40ZZ", Err(DateRule::Form)),
+        ("2025-06-15 15:06:40Z", Err(DateRule::Form)),
+        ("2025-06-15t15:06:40Z", Err(DateRule::Form)),
+        ("2025-06-15T15:06:40z", Err(DateRule::Form)),
+        ("2025/06/15T15:06:40Z", Err(DateRule::Form)),
+        ("2025-06-15T15.06.40Z", Err(DateRule::Form)),
+        ("2025-06-15T15:06:40.0Z", Err(DateRule::Form)),
+        ("2025-06-15T15:06:40+00:00", Err(DateRule::Form)),
+        ("2025-06-15T15:06:4٣Z", Err(DateRule::Form)),
         ("1969-12-31T23:59:59Z", Err(DateRule::NoSuch)),
+        ("2025-00-10T00:00:00Z", Err(DateRule::NoSuch)),
+        ("2025-13-10T00:00:00Z", Err(DateRule::NoSuch)),
+        ("2025-06-00T00:00:00Z", Err(DateRule::NoSuch)),
+        ("2025-06-31T00:00:00Z", Err(DateRule::NoSuch)),
+        ("2025-02-29T00:00:00Z", Err(DateRule::NoSuch)),
+        ("2100-02-29T00:00:00Z", Err(DateRule::NoSuch)),
         ("2025-06-15T24:00:00Z", Err(DateRule::NoSuch)),
+        ("2025-06-15T23:60:00Z", Err(DateRule::NoSuch)),
         ("2016-12-31T23:59:60Z", Err(DateRule::NoSuch)),
     ] {
         assert!(rt; read_tdate(text) == wanted, "of {text}");
-    }
-    assert!(rt; HashName::from_mso("SHA-256") == Some(HashName::Sha256));
-    for text in ["sha-256", "SHA-384", ""] {
-        assert!(rt; HashName::from_mso(text).is_none(), "of {text}");
     }
 }

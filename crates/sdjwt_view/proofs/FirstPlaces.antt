@@ -1,18 +1,18 @@
--- First places, and texts that differ.
-use Rattle.std.proofs.Common.{◌≡◌, ℕ, suc, ◌+◌, ◌<◌, ◌≤◌, Bool, true, false, not, ◌&&◌, ◌||◌, cond, List, [], ◌∷◌, ◌++◌, length, map, take, get_or, Option, Some, None, option_map, option_and_then, refl, sym, ap, ◌∙◌, arith, inl, inr, slice_get, drop, Bor, ltb, ap₂, BTreeMap, String, Global}
+-- First places.
+use Rattle.std.proofs.Common.{◌≡◌, ℕ, suc, ◌+◌, ◌<◌, ◌≤◌, Bool, true, false, cond, List, [], ◌∷◌, ◌++◌, length, map, take, get_or, Option, Some, None, option_map, option_and_then, refl, sym, ap, ◌∙◌, arith, inl, inr, slice_get, drop, Bor, ltb, ap₂, BTreeMap, String, Global}
 use Rattle.std.specs.Option.{option_or, is_some, IfSome}
 use Rattle.std.specs.BTreeMap.{get_by_text}
 use Rattle.std.specs.Map.{update}
 use Rattle.std.specs.Str.{bytes_eq}
 use Rattle.std.proofs.lemmas.Bool.{cases_Bool}
-use Rattle.std.proofs.lemmas.Slice.Eq.{bytes_eq-Decides}
 use Rattle.std.proofs.lemmas.List.{take_more, map-append, take-append-drop}
-use Rattle.std.proofs.lemmas.List.Folds.{list_any-append}
 use Rattle.std.proofs.lemmas.Bool.Decides.{nat_tests}
 use Rattle.std.proofs.lemmas.Option.{slice_get-get_or, slice_get_past}
 use Rattle.std.proofs.lemmas.List.{length-map, length-take-le}
 use Rattle.std.proofs.lemmas.Grind.{common_steps}
-use Rattle.sdjwt_view.specs.Disclosures.{Utf8, is_among, differ, found}
+use Rattle.distinct_texts.specs.Texts.{Utf8, is_among}
+use Rattle.distinct_texts.proofs.Differing.{same_from}
+use Rattle.sdjwt_view.specs.Disclosures.{found}
 use Rattle.sdjwt_view.specs.Said.{said}
 use Rattle.sdjwt_view.specs.Named.{own_digest, first_place}
 use Rattle.sdjwt_view.specs.declared.disclosure.Disclosure.{Disclosure}
@@ -35,9 +35,6 @@ or_none : (o : Option ℕ) → option_or o None ≡ o
 or_none None = refl
 or_none (Some n) = refl
 
-pub same_from : (xs ys : Utf8) → bytes_eq xs ys ≡ true → xs ≡ ys
-same_from xs ys h = (bytes_eq-Decides xs ys).0 h
-
 pub place_step : (q : Utf8) (xs : List Utf8) (y : Utf8) → first_place y xs ≡ None → cond (bytes_eq y q) (Some (length xs)) (first_place q xs) ≡ first_place q (xs ++ y ∷ [])
 place_step q xs y new = elim (cases_Bool (bytes_eq y q)) [
   | inl same ↦ let is = same_from y q same in rw (first_place_push q xs y, same) (ap (λ o. option_or o (Some (length xs))) (sym new ∙ ap (λ k. first_place k xs) is))
@@ -49,39 +46,6 @@ is_some-first_place x [] = refl
 is_some-first_place x (y ∷ ys) = elim (cases_Bool (bytes_eq y x)) [
   | inl same ↦ rw same refl
   | inr other ↦ rw other (grind (arith, common_steps, is_some-first_place x ys))
-]
-
-pub bytes_eq-flip : (xs ys : Utf8) → bytes_eq xs ys ≡ bytes_eq ys xs
-bytes_eq-flip xs ys = elim (cases_Bool (bytes_eq xs ys)) [
-  | inl same ↦ let is = same_from xs ys same in ap (bytes_eq xs) (sym is) ∙ ap (λ z. bytes_eq z xs) is
-  | inr other ↦ elim (cases_Bool (bytes_eq ys xs)) [
-    | inl same ↦ let is = same_from ys xs same in ap (bytes_eq xs) is ∙ ap (λ z. bytes_eq z xs) (sym is)
-    | inr too ↦ other ∙ sym too
-  ]
-]
-
-shuffle : (a b c e : Bool) → (not (a || (b || false)) && (c && not e)) ≡ ((not a && c) && not (b || e))
-shuffle true b c e = refl
-shuffle false true true e = refl
-shuffle false true false e = refl
-shuffle false false true true = refl
-shuffle false false true false = refl
-shuffle false false false e = refl
-
-pub differ_push : (xs : List Utf8) (y : Utf8) → differ (xs ++ y ∷ []) ≡ (differ xs && not (is_among y xs))
-differ_push [] y = refl
-differ_push (x ∷ xs) y =
-    rw (list_any-append (λ z. bytes_eq z x) xs (y ∷ []), differ_push xs y) (shuffle (is_among x xs) (bytes_eq y x) (differ xs) (is_among y xs) ∙ ap (λ b. (not (is_among x xs) && differ xs) && not (b || is_among y xs)) (bytes_eq-flip y x))
-
-and_false : (b : Bool) → (b && false) ≡ false
-and_false true = refl
-and_false false = refl
-
-pub differ_front : (xs ys : List Utf8) → differ xs ≡ false → differ (xs ++ ys) ≡ false
-differ_front [] ys h = absurd (cc h)
-differ_front (x ∷ xs) ys h = elim (cases_Bool (is_among x xs)) [
-  | inl among ↦ rw (list_any-append (λ z. bytes_eq z x) xs ys, among) refl
-  | inr apart ↦ let rest : differ xs ≡ false = (rw apart at h) in rw (differ_front xs ys rest) (and_false _)
 ]
 
 one_on : (d : Disclosure) (ds : List Disclosure) (o : Option ℕ) → option_and_then (λ i. option_map said (slice_get (d ∷ ds) i)) (option_map suc o) ≡ option_and_then (λ i. option_map said (slice_get ds i)) o
@@ -113,9 +77,6 @@ got None ds i none is =
 got (Some x) ds i some is =
     let within : i < length ds = grind (arith, nat_tests) in
     ap (λ d. Some (said d)) is ∙ sym (ap (option_map said) (slice_get-get_or ds i x.now within))
-
-pub clashing : (a b : Bool) → b ≡ true → (a && not b) ≡ false
-clashing a b h = rw h (and_false a)
 
 pub length_front : (ds : List Disclosure) (i : ℕ) → i < length ds → length (map own_digest (take i ds)) ≡ i
 length_front ds i h = length-map (take i ds) own_digest ∙ length-take-le i ds (omega arith)

@@ -16,7 +16,8 @@ use Rattle.jws_envelope.specs.Envelope.{Envelope, envelope_of, jws_rule}
 use Rattle.claim_tree.specs.Tree.{ascend, hold_claims, member_names}
 use Rattle.claim_tree.specs.Plain.{plain_members as plain_fields}
 use Rattle.claim_tree.specs.Parts.{Named}
-use Rattle.sdjwt_view.specs.Disclosures.{Utf8, is_among, differ, Disclosed, salted, json_in, digest_of, disclosed, all_disclosed}
+use Rattle.distinct_texts.specs.Texts.{Utf8, is_among, differ}
+use Rattle.sdjwt_view.specs.Disclosures.{Disclosed, salted, json_in, digest_of, disclosed, all_disclosed}
 use Rattle.sdjwt_view.specs.Places.{digest_at, all_places, is_mismatch, is_sound}
 use Rattle.sdjwt_view.specs.Placing.{names_mark, reserved, top_names, any_clash, marks_rule, double_rule, reach_rule, names_rule, depth_rule, own_place_rule, placing_rule}
 use Rattle.sdjwt_view.specs.Spelling.{sd_alg, left_out, spelled, spelled_members, spelled_payload}

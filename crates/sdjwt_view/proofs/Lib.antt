@@ -3,7 +3,6 @@ pub mod Orders
 pub mod Tables
 pub mod FirstPlaces
 pub mod Reaching
-pub mod Sets
 pub mod Claims
 pub mod LastElements
 pub mod ValueClaims

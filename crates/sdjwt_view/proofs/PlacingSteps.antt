@@ -3,7 +3,8 @@ use Rattle.std.proofs.Common.{◌≡◌, ℕ, Bool, true, false, ◌&&◌, List,
 use Rattle.std.specs.List.{list_all}
 use Rattle.serde_json.specs.Data.{Data}
 use Rattle.rule_tables.specs.Rules.{rule, first}
-use Rattle.sdjwt_view.specs.Disclosures.{differ, Disclosed}
+use Rattle.distinct_texts.specs.Texts.{differ}
+use Rattle.sdjwt_view.specs.Disclosures.{Disclosed}
 use Rattle.sdjwt_view.specs.Places.{are_reached}
 use Rattle.std.specs.Prelude.{IfOk, Result, Ok, Err}
 use Rattle.sdjwt_view.specs.Placing.{marks_rule, double_rule, reach_rule, depth_rule, own_place_rule, placing_rule}

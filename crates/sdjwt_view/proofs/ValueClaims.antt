@@ -13,7 +13,8 @@ use Rattle.claim_tree.specs.Tree.{element_marks, is_claim, are_claims}
 use Rattle.claim_tree.specs.Plain.{plain, plain_elements}
 use Rattle.claim_tree.proofs.Readings.{is_claim-read}
 use Rattle.base_forms.specs.Url64.{url64_bytes}
-use Rattle.sdjwt_view.specs.Disclosures.{Utf8, json_in, salted}
+use Rattle.distinct_texts.specs.Texts.{Utf8}
+use Rattle.sdjwt_view.specs.Disclosures.{json_in, salted}
 use Rattle.sdjwt_view.proofs.Claims.{IsSound}
 
 json_claim_at : (b : Bool) (bytes : List ℕ) (d : Data) → cond b (read bytes) None ≡ Some d → IsSound d

@@ -1,27 +1,14 @@
 -- Disclosures: what a holder may leave out of an SD-JWT, each named by its digest (RFC 9901, sections 4.2.1 to 4.2.3).
-use Rattle.std.specs.Prelude.{ℕ, Bool, true, ◌&&◌, not, List, [], ◌∷◌, Option, Some, None, option_map, option_and_then, if◌then◌else◌}
-use Rattle.std.specs.List.{list_any}
+use Rattle.std.specs.Prelude.{List, [], ◌∷◌, Option, Some, None, option_map, option_and_then, if◌then◌else◌}
 use Rattle.std.specs.Str.{bytes_eq}
 use Rattle.serde_json.specs.Data.{Data}
 use Rattle.serde_json.specs.Find.{as_str}
+use Rattle.distinct_texts.specs.Texts.{Utf8}
 use Rattle.json_forms.specs.Look.{elements_of, is_text}
 use Rattle.json_forms.specs.Text.{json_of}
 use Rattle.base_forms.specs.Url64.{url64_of, url64_bytes}
 use Rattle.base_forms.specs.Hash.{digest_by}
 use Rattle.base_forms.specs.declared.hash.HashName.{HashName}
-
--- a text, by its bytes
-abbrev pub Utf8 : Type 0
-Utf8 = List ℕ
-
--- whether a text is among some
-abbrev pub is_among : Utf8 → List Utf8 → Bool
-is_among x xs = list_any (λ y. bytes_eq y x) xs
-
--- no text stands twice
-abbrev pub differ : List Utf8 → Bool
-differ [] = true
-differ (x ∷ xs) = not (is_among x xs) && differ xs
 
 -- A disclosure with a name is that of an object's member, and one without is that of a list's element.
 pub record Disclosed : Type 0 where

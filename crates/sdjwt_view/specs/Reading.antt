@@ -14,7 +14,8 @@ use Rattle.json_forms.specs.Look.{text_at}
 use Rattle.jws_envelope.specs.Compact.{dot_parts}
 use Rattle.jws_envelope.specs.Envelope.{Envelope, envelope_of, jws_rule, issuer_of}
 use Rattle.claim_tree.specs.Tree.{Tree, RecordOf}
-use Rattle.sdjwt_view.specs.Disclosures.{Utf8, Disclosed, all_disclosed}
+use Rattle.distinct_texts.specs.Texts.{Utf8}
+use Rattle.sdjwt_view.specs.Disclosures.{Disclosed, all_disclosed}
 use Rattle.claim_tree.specs.Parts.{Named, members_of}
 use Rattle.sdjwt_view.specs.Spelling.{sd_alg, spelled_payload}
 use Rattle.sdjwt_view.specs.Placing.{placing_rule}

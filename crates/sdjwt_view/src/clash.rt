@@ -8,8 +8,8 @@ ghost use Rattle.sdjwt_view.specs.Held.{all_said};
 ghost use Rattle.sdjwt_view.specs.Places.{own_digests, texts_in, disclosed_names, gets_clash, has_clash, have_clash, holds_clash};
 
 use crate::disclosures::Disclosures;
-use crate::distinct::are_distinct;
 use crate::places::{entry, own_digests, placeholder};
+use distinct_texts::are_distinct;
 use serde_json::{Map, Value};
 use std::alloc::{AllocError, Global};
 

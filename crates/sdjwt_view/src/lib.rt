@@ -5,7 +5,6 @@ mod clash;
 mod credential;
 mod disclosure;
 mod disclosures;
-mod distinct;
 mod error;
 mod facts;
 mod floats;

@@ -1,7 +1,7 @@
 use Rattle.std.proofs.Common.{◌≡◌, [], get_or, true, false, sym, ap, ◌∙◌}
 use Rattle.std.specs.Option.{is_some}
-use Rattle.sdjwt_view.proofs.Sets.{has_text, set_step, differ_step, clash_step}
-use Rattle.sdjwt_view.proofs.distinct.are_distinct.Goals as goal
+use Rattle.distinct_texts.proofs.SeenTexts.{has_text, set_step, differ_step, clash_step}
+use Rattle.distinct_texts.proofs.are_distinct.Goals as goal
 
 pub returns-then-is_some : goal.returns-then-is_some
 returns-then-is_some c =

@@ -2,8 +2,8 @@ use Rattle.std.proofs.Common.{◌≡◌, ℕ, List, take, map, true, nat_cmp}
 use Rattle.std.specs.Option.{is_some}
 use Rattle.std.specs.BTreeMap.{get_by}
 use Rattle.std.specs.Cmp.Lexicographic.{slice_cmp}
-use Rattle.sdjwt_view.specs.Disclosures.{differ, is_among}
-use Rattle.sdjwt_view.proofs.distinct.are_distinct.Given as goal
+use Rattle.distinct_texts.specs.Texts.{differ, is_among}
+use Rattle.distinct_texts.proofs.are_distinct.Given as goal
 
 abbrev pub invariant-loop-text : goal.invariant-loop-text
 invariant-loop-text l = record {

@@ -7,8 +7,8 @@ use Rattle.std.specs.Str.{bytes_eq}
 use Rattle.std.proofs.lemmas.List.{take_more, map-append, take-append-drop}
 use Rattle.std.proofs.lemmas.List.Folds.{list_any-append}
 use Rattle.std.proofs.lemmas.Map.Text.{btree_map_updates_str}
-use Rattle.sdjwt_view.specs.Disclosures.{Utf8, is_among, differ}
-use Rattle.sdjwt_view.proofs.FirstPlaces.{differ_push, differ_front, clashing}
+use Rattle.distinct_texts.specs.Texts.{Utf8, is_among, differ}
+use Rattle.distinct_texts.proofs.Differing.{differ_push, differ_front, clashing}
 
 abbrev pub texts_of : List (Bor Utf8) → List Utf8
 texts_of ts = map (λ s. s.now) ts

@@ -1,14 +1,16 @@
-// Texts of which none stands twice.
+//! Texts of which none stands twice, and texts as a set.
+#![tactic(auto)]
+
 ghost use Rattle.std.specs.Prelude.{◌≡◌, ◌^◌, ◌<◌, IfOk, List, ℕ, map, is_some, length};
 ghost use Rattle.std.specs.BTreeMap.{get_by};
 ghost use Rattle.std.specs.Ordering.{nat_cmp};
 ghost use Rattle.std.specs.Cmp.Lexicographic.{slice_cmp};
-ghost use Rattle.sdjwt_view.specs.Disclosures.{differ, is_among};
+ghost use Rattle.distinct_texts.specs.Texts.{differ, is_among};
 
 use std::alloc::{AllocError, Global};
 use std::collections::BTreeMap;
 
-/// Whether no text stands twice.
+/// Whether no text stands twice. The time is linear up to a logarithm.
 pub fn are_distinct(alloc: Global, texts: &[&str]) -> Result<bool, AllocError>
     ensures { IfOk result (λ b. b ≡ differ (map (λ s. s.now) texts.now)) }
 {
@@ -31,3 +33,6 @@ pub fn set_of<'a>(alloc: Global, texts: &[&'a str]) -> Result<BTreeMap<&'a str, 
     }
     Ok(set)
 }
+
+#[cfg(test)]
+mod tests;
