@@ -93,28 +93,3 @@ module _ {K : Type 0} (R : K → K → Ordering) (o : IsTotalOrder R) (meaning :
       both_ways (neighbours_differ (map meaning sorted)) (keys_differ (map meaning keys))
       (λ n. differ_from keys (IsDistinct-IsPermutation (eq_by_cmp R) flips sorted keys (IsPermutation-sym keys sorted moved) (IsDistinct-from_sorted R sorted (strict sorted s n))))
       (λ d. apart_next sorted (IsDistinct-IsPermutation (eq_by_cmp R) flips keys sorted moved (distinct_from keys d)))
-
--- ---- keys and values in turn
-
--- the keys of what is left, where key is the last one and its value comes next
-abbrev pub keys_after : Option KeyMeaning → List (List ℕ) → List KeyMeaning
-keys_after None items = keys_in (pair_up items)
-keys_after (Some key) [] = []
-keys_after (Some key) (value ∷ items) = key ∷ keys_in (pair_up items)
-
-begins : (item : List ℕ) (items : List (List ℕ)) → keys_after None (item ∷ items) ≡ keys_after (Some (key_of item)) items
-begins item [] = refl
-begins item (value ∷ items) = refl
-
-pub keys_key : (before total : List KeyMeaning) (key : KeyMeaning) (item : List ℕ) (left items : List (List ℕ)) → left ≡ item ∷ items → key ≡ key_of item → before ++ keys_after None left ≡ total → before ++ keys_after (Some key) items ≡ total
-keys_key before total key item left items l k so_far = rw k (ap (λ (ks : List KeyMeaning). before ++ ks) (sym (begins item items)) ∙ ap (λ (xs : List (List ℕ)). before ++ keys_after None xs) (sym l) ∙ so_far)
-
-pub keys_value : (before total : List KeyMeaning) (key : KeyMeaning) (item : List ℕ) (left items : List (List ℕ)) → left ≡ item ∷ items → before ++ keys_after (Some key) left ≡ total → (before ++ (key ∷ [])) ++ keys_after None items ≡ total
-keys_value before total key item left items l so_far = append_assoc before (key ∷ []) (keys_after None items) ∙ ap (λ (xs : List (List ℕ)). before ++ keys_after (Some key) xs) (sym l) ∙ so_far
-
-end : (key : Option KeyMeaning) → keys_after key [] ≡ []
-end None = refl
-end (Some key) = refl
-
-pub keys_end : (before total : List KeyMeaning) (key : Option KeyMeaning) (left : List (List ℕ)) → left ≡ [] → before ++ keys_after key left ≡ total → before ≡ total
-keys_end before total key left l so_far = sym (append-nil before) ∙ ap (λ (ks : List KeyMeaning). before ++ ks) (sym (end key)) ∙ ap (λ (xs : List (List ℕ)). before ++ keys_after key xs) (sym l) ∙ so_far

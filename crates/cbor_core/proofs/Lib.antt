@@ -4,6 +4,7 @@ pub mod Reading
 pub mod Deeper
 pub mod Cutting
 pub mod Inside
+pub mod OneWalk
 pub mod Written
 pub mod Steady
 pub mod Keys

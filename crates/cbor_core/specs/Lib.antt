@@ -10,3 +10,4 @@ pub mod Order
 pub mod Seen
 pub mod Keys
 pub mod KeySeen
+pub mod Fine

@@ -24,6 +24,14 @@ pub struct Item<'a> {
 impl<'a> Item<'a> {
     ghost use Rattle.cbor_core.specs.Seen.{span_of, items_left, entries_left};
 
+    /// The item that the bytes are.
+    pub(crate) fn of(bytes: &'a [u8]) -> Item<'a>
+        requires { IsTrue (is_item bytes.now) }
+        ensures { result.bytes.now ≡ bytes.now }
+    {
+        Item { bytes }
+    }
+
     /// The item at the front, and the bytes after it.
     pub(crate) fn first(bytes: &'a [u8], depth: u32) -> Result<(Item<'a>, &'a [u8]), Fault>
         requires { depth ≤ MAX_DEPTH }

@@ -2,11 +2,9 @@
 
 ghost use Rattle.std.specs.Prelude.{◌≡◌, ◌∷◌, map};
 ghost use Rattle.cbor_core.specs.Keys.{key_of, same_key, keys_differ, neighbours_differ};
-ghost use Rattle.cbor_core.specs.Seen.{span_of};
 ghost use Rattle.cbor_core.specs.KeySeen.{meaning_of};
 
 use crate::head::{Head, head_at};
-use crate::item::Item;
 
 /// A key as keys are compared: two are the same where this is equal.
 #[derive(Clone, Copy, PartialEq, Eq, PartialOrd, Ord)]
@@ -18,12 +16,11 @@ pub enum Key<'a> {
     Other(&'a [u8]),
 }
 
-/// What the item is as a key.
+/// What an item of these bytes is as a key.
 #[tactic(auto, unfolding(crate::specs::Keys::key_of))]
-pub(crate) fn key_of<'a>(item: Item<'a>) -> Key<'a>
-    ensures { meaning_of result ≡ key_of (span_of item.entry) }
+pub(crate) fn key_of(bytes: &[u8]) -> Key<'_>
+    ensures { meaning_of result ≡ key_of bytes.now }
 {
-    let bytes = item.span();
     let Ok((head, back)) = head_at(bytes) else {
         return Key::Other(bytes);
     };

@@ -2,6 +2,7 @@
 #![tactic(auto)]
 
 mod error;
+mod fine;
 mod head;
 mod item;
 mod key;
