@@ -1,12 +1,10 @@
 mod Indexes
 mod Dates
-mod Differing
-mod SeenTexts
 mod SortedOnce
 mod Inserting
 mod Prefixes
 mod KeyPairs
-mod PutValues
+mod InOrder
 mod ValueClaims
 mod Levels
 mod Naming

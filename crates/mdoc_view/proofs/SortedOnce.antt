@@ -19,7 +19,7 @@ filter_as_flat_map p (x ∷ xs) =
     [ true ↦ ap (λ l. x ∷ l) (filter_as_flat_map p xs) | false ↦ filter_as_flat_map p xs ]
 
 module _ {A : Type 0} (P : A → Type 0) where
-  all_weaker : (Q : A → Type 0) → ((x : A) → P x → Q x) → (xs : List A) → AllByRecursion P xs → AllByRecursion Q xs
+  pub all_weaker : (Q : A → Type 0) → ((x : A) → P x → Q x) → (xs : List A) → AllByRecursion P xs → AllByRecursion Q xs
   all_weaker Q f [] h = tt
   all_weaker Q f (x ∷ xs) h = (f x h.0, all_weaker Q f xs h.1)
 
@@ -79,7 +79,7 @@ ascending-filter R p (x ∷ xs) up =
     [ true ↦ (all-filter (R x) p xs up.0, ascending-filter R p xs up.1) | false ↦ ascending-filter R p xs up.1 ]
 
 module _ {X : Type 0} (cmp : X → X → Ordering) (total : IsTotalOrder cmp) where
-  abbrev AtMost : X → X → Type 0
+  abbrev pub AtMost : X → X → Type 0
   AtMost a b = is_gt (cmp a b) ≡ false
 
   turned : (o : Ordering) → is_lt o ≡ false → is_gt (ordering_reverse o) ≡ false
@@ -93,7 +93,7 @@ module _ {X : Type 0} (cmp : X → X → Ordering) (total : IsTotalOrder cmp) wh
       let first : AtMost x y = ap is_gt (total.antisymm x y) ∙ turned _ (sorted 0 x (omega arith) (omega arith)) in
       (first, all_weaker _ (AtMost x) (λ z. upto total x y z first) ys up.0)
 
-  ascending_from_sorted : (xs : List X) → IsSorted cmp xs → IsAscending AtMost xs
+  pub ascending_from_sorted : (xs : List X) → IsSorted cmp xs → IsAscending AtMost xs
   ascending_from_sorted [] sorted = tt
   ascending_from_sorted (x ∷ xs) sorted =
       let tail : IsSorted cmp xs = λ k d p q. rw Rattle.std.proofs.Common.add-one (rw Rattle.std.proofs.Common.add-one at (sorted (suc k) d (omega arith) (omega arith))) in
@@ -131,7 +131,7 @@ module _ {X : Type 0} (cmp : X → X → Ordering) (total : IsTotalOrder cmp) wh
   one x (y ∷ z ∷ ys) same = absurd (omega (arith, length_permutation _ _ same))
 
   -- Of the orders of a list with no ties, one is sorted. Its head is all that is not above the head, and the rest follows by induction.
-  same_order : (xs ys : List X) → IsAscending (λ a b. cmp a b ≡ Less) xs → IsPermutation xs ys → IsAscending AtMost ys → ys ≡ xs
+  pub same_order : (xs ys : List X) → IsAscending (λ a b. cmp a b ≡ Less) xs → IsPermutation xs ys → IsAscending AtMost ys → ys ≡ xs
   same_order [] [] strict same up = refl
   same_order [] (y ∷ ys) strict same up = absurd (omega (arith, length_permutation _ _ same))
   same_order (x ∷ xs) ys strict same up =

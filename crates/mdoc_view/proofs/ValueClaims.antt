@@ -1,22 +1,21 @@
 -- The tree of a document is a claim: names ascend, and no list has a held element.
-use Rattle.std.proofs.Common.{◌≡◌, ℕ, zero, suc, Bool, true, false, not, ◌&&◌, ◌||◌, List, [], ◌∷◌, Option, Some, None, option_and_then, Ordering, Less, Equal, Greater, nat_cmp, refl, ap, ap₂}
+use Rattle.std.proofs.Common.{◌≡◌, ℕ, zero, suc, Bool, true, false, not, ◌&&◌, ◌||◌, List, [], ◌∷◌, map, Option, Some, None, option_map, option_and_then, IfSome, Ordering, Less, Equal, Greater, inl, inr, refl, ap, ap₂}
 use Rattle.std.specs.Option.{option_map_or}
-use Rattle.std.specs.List.{list_all, list_any}
-use Rattle.std.specs.Ordering.{match_ordering}
-use Rattle.std.specs.Cmp.Lexicographic.{slice_cmp}
-use Rattle.std.proofs.lemmas.Bool.{and_parts, and_from}
+use Rattle.std.specs.List.{list_all, list_any, AllByRecursion}
+use Rattle.std.specs.Ordering.{is_lt, match_ordering}
+use Rattle.std.proofs.lemmas.Bool.{and_parts, and_from, cases_Bool}
 use Rattle.claim_tree.specs.Tree.{Name, Tree, Text, Whole, Truth, Bytes, Other, element_marks, member_names, ascend, is_claim, are_claims, hold_claims}
 use Rattle.claim_tree.specs.Parts.{elements_of, members_of}
 use Rattle.claim_tree.specs.Search.{below}
-use Rattle.claim_tree.proofs.Ascending.{all_below, above}
 use Rattle.cbor_core.specs.declared.kind.Kind.{Kind}
 use Rattle.cbor_core.specs.declared.kind.Kind.TheVariants as kind
 use Rattle.cbor_core.specs.Views.{kind_of, whole_of, bytes_of, utf8_text_of, truth_of, tag_of, items_of, entries_of}
 use Rattle.mdoc_view.specs.Looks.{Span, Utf8, Entries}
 use Rattle.mdoc_view.specs.Items.{Signed, Namespace}
-use Rattle.mdoc_view.specs.Value.{Valued, put_value, marked, record_of, named_values, plain_parts, list_tree, tree_by, value_at, value_of, element_values, namespace_tree, namespace_values, document_tree}
+use Rattle.mdoc_view.specs.Value.{Valued, placed, in_order, rise, marked, record_of, named_values, plain_parts, list_tree, tree_by, value_at, value_of, namespace_tree, document_tree}
+use Rattle.mdoc_view.proofs.InOrder.{by_name, Strict, strict_from_rise}
 
--- ---- a tree that is put in
+-- ---- records
 
 module _ (held : Bool) where
   abbrev named : List Valued → List Name
@@ -25,67 +24,60 @@ module _ (held : Bool) where
   abbrev hold : List Valued → Bool
   hold ms = hold_claims (members_of (marked held ms))
 
-  put_all_at : (o : Ordering) (p : Name → Bool) (k : Utf8) (t : Tree) (l : Valued) (ls : List Valued) → p k ≡ true → p l.0 ≡ true → list_all p (named ls) ≡ true → list_all p (named (put_value k t ls)) ≡ true
-      → list_all p (named (match_ordering o ((k, t) ∷ l ∷ ls) ((l.0, t) ∷ ls) (l ∷ put_value k t ls))) ≡ true
-  put_all_at Less p k t l ls pk pl rest later = and_from (p k) (p l.0 && list_all p (named ls)) pk (and_from (p l.0) (list_all p (named ls)) pl rest)
-  put_all_at Equal p k t l ls pk pl rest later = and_from (p l.0) (list_all p (named ls)) pl rest
-  put_all_at Greater p k t l ls pk pl rest later = and_from (p l.0) (list_all p (named (put_value k t ls))) pl later
+  all_below : (m : Valued) (ms : List Valued) → AllByRecursion (λ l. by_name m l ≡ Less) ms → list_all (below m.0) (named ms) ≡ true
+  all_below m [] h = refl
+  all_below m (l ∷ ms) h = and_from (below m.0 l.0) (list_all (below m.0) (named ms)) (ap is_lt h.0) (all_below m ms h.1)
 
-  put_all : (p : Name → Bool) (k : Utf8) (t : Tree) (ls : List Valued) → p k ≡ true → list_all p (named ls) ≡ true → list_all p (named (put_value k t ls)) ≡ true
-  put_all p k t [] pk h = and_from (p k) true pk refl
-  put_all p k t (l ∷ ls) pk h =
-      let both = and_parts (p l.0) (list_all p (named ls)) h in
-      put_all_at (slice_cmp nat_cmp k l.0) p k t l ls pk both.0 both.1 (put_all p k t ls pk both.1)
+  ascend-strict : (ms : List Valued) → Strict ms → ascend (named ms) ≡ true
+  ascend-strict [] h = refl
+  ascend-strict (m ∷ ms) h = and_from (list_all (below m.0) (named ms)) (ascend (named ms)) (all_below m ms h.0) (ascend-strict ms h.1)
 
-  ascend-put_at : (o : Ordering) (k : Utf8) (t : Tree) (l : Valued) (ls : List Valued) → slice_cmp nat_cmp k l.0 ≡ o → list_all (below l.0) (named ls) ≡ true → ascend (named ls) ≡ true → ascend (named (put_value k t ls)) ≡ true
-      → ascend (named (match_ordering o ((k, t) ∷ l ∷ ls) ((l.0, t) ∷ ls) (l ∷ put_value k t ls))) ≡ true
-  ascend-put_at Less k t l ls is first rest later =
-      and_from (below k l.0 && list_all (below k) (named ls)) (list_all (below l.0) (named ls) && ascend (named ls))
-      (and_from (below k l.0) (list_all (below k) (named ls)) (ap Rattle.std.specs.Ordering.is_lt is) (all_below k l.0 (named ls) is first))
-      (and_from (list_all (below l.0) (named ls)) (ascend (named ls)) first rest)
-  ascend-put_at Equal k t l ls is first rest later = and_from (list_all (below l.0) (named ls)) (ascend (named ls)) first rest
-  ascend-put_at Greater k t l ls is first rest later =
-      and_from (list_all (below l.0) (named (put_value k t ls))) (ascend (named (put_value k t ls))) (put_all (below l.0) k t ls (above k l.0 is) first) later
+  hold-placed_at : (o : Ordering) (m l : Valued) (ls : List Valued) → is_claim m.1 ≡ true → is_claim l.1 ≡ true → hold ls ≡ true → hold (placed m ls) ≡ true
+      → hold (match_ordering o (m ∷ l ∷ ls) (m ∷ l ∷ ls) (l ∷ placed m ls)) ≡ true
+  hold-placed_at Less m l ls p q rest later = and_from (is_claim m.1) (is_claim l.1 && hold ls) p (and_from (is_claim l.1) (hold ls) q rest)
+  hold-placed_at Equal m l ls p q rest later = and_from (is_claim m.1) (is_claim l.1 && hold ls) p (and_from (is_claim l.1) (hold ls) q rest)
+  hold-placed_at Greater m l ls p q rest later = and_from (is_claim l.1) (hold (placed m ls)) q later
 
-  ascend-put : (k : Utf8) (t : Tree) (ls : List Valued) → ascend (named ls) ≡ true → ascend (named (put_value k t ls)) ≡ true
-  ascend-put k t [] h = refl
-  ascend-put k t (l ∷ ls) h =
-      let both = and_parts (list_all (below l.0) (named ls)) (ascend (named ls)) h in
-      ascend-put_at (slice_cmp nat_cmp k l.0) k t l ls refl both.0 both.1 (ascend-put k t ls both.1)
-
-  hold-put_at : (o : Ordering) (k : Utf8) (t : Tree) (l : Valued) (ls : List Valued) → is_claim t ≡ true → is_claim l.1 ≡ true → hold ls ≡ true → hold (put_value k t ls) ≡ true
-      → hold (match_ordering o ((k, t) ∷ l ∷ ls) ((l.0, t) ∷ ls) (l ∷ put_value k t ls)) ≡ true
-  hold-put_at Less k t l ls p q rest later = and_from (is_claim t) (is_claim l.1 && hold ls) p (and_from (is_claim l.1) (hold ls) q rest)
-  hold-put_at Equal k t l ls p q rest later = and_from (is_claim t) (hold ls) p rest
-  hold-put_at Greater k t l ls p q rest later = and_from (is_claim l.1) (hold (put_value k t ls)) q later
-
-  hold-put : (k : Utf8) (t : Tree) (ls : List Valued) → is_claim t ≡ true → hold ls ≡ true → hold (put_value k t ls) ≡ true
-  hold-put k t [] p h = and_from (is_claim t) true p refl
-  hold-put k t (l ∷ ls) p h =
+  hold-placed : (m : Valued) (ls : List Valued) → is_claim m.1 ≡ true → hold ls ≡ true → hold (placed m ls) ≡ true
+  hold-placed m [] p h = and_from (is_claim m.1) true p refl
+  hold-placed m (l ∷ ls) p h =
       let both = and_parts (is_claim l.1) (hold ls) h in
-      hold-put_at (slice_cmp nat_cmp k l.0) k t l ls p both.0 both.1 (hold-put k t ls p both.1)
+      hold-placed_at (by_name m l) m l ls p both.0 both.1 (hold-placed m ls p both.1)
 
-  -- named trees of which a record is a claim
-  abbrev AreClaims : List Valued → Type 0
-  AreClaims ms = (ascend (named ms) ≡ true) × (hold ms ≡ true)
+  hold-in_order : (ms : List Valued) → hold ms ≡ true → hold (in_order ms) ≡ true
+  hold-in_order [] h = refl
+  hold-in_order (m ∷ ms) h =
+      let both = and_parts (is_claim m.1) (hold ms) h in
+      hold-placed m (in_order ms) both.0 (hold-in_order ms both.1)
 
-  claims-put : (k : Utf8) (t : Tree) (ms : List Valued) → is_claim t ≡ true → AreClaims ms → AreClaims (put_value k t ms)
-  claims-put k t ms p (up, all) = (ascend-put k t ms up, hold-put k t ms p all)
-
-  record_claim : (ms : List Valued) → AreClaims ms → is_claim (record_of held ms) ≡ true
-  record_claim ms (up, all) = and_from (ascend (named ms)) (hold ms) up all
+  record_claim : (ms : List Valued) → hold ms ≡ true → is_claim (record_of held ms) ≡ true
+  record_claim ms h =
+      elim (cases_Bool (rise (in_order ms))) [
+        | inl up ↦ rw up (and_from (ascend (named (in_order ms))) (hold (in_order ms)) (ascend-strict (in_order ms) (strict_from_rise (in_order ms) up)) (hold-in_order ms h))
+        | inr down ↦ rw down refl
+      ]
 
 -- ---- the tree of an item
 
 module _ (inner : Span → Tree) (claims : (i : Span) → is_claim (inner i) ≡ true) where
-  named_at : (e : Span × Span) (es : Entries) (ms : List Valued) → ((name : Utf8) → is_claim (option_map_or (record_of false) (named_values inner es (put_value name (inner e.1) ms)) Other) ≡ true)
-      → (o : Option Utf8) → is_claim (option_map_or (record_of false) (option_and_then (λ name. named_values inner es (put_value name (inner e.1) ms)) o) Other) ≡ true
-  named_at e es ms next None = refl
-  named_at e es ms next (Some name) = next name
+  abbrev AllHold : Option (List Valued) → Type 0
+  AllHold o = IfSome o (λ ms. hold false ms ≡ true)
 
-  values_claim : (es : Entries) (ms : List Valued) → AreClaims false ms → is_claim (option_map_or (record_of false) (named_values inner es ms) Other) ≡ true
-  values_claim [] ms h = record_claim false ms h
-  values_claim (e ∷ es) ms h = named_at e es ms (λ name. values_claim es (put_value name (inner e.1) ms) (claims-put false name (inner e.1) ms (claims e.1) h)) (utf8_text_of e.0)
+  one_more : (e : Span × Span) (name : Utf8) (o : Option (List Valued)) → AllHold o → AllHold (option_map (λ ms. (name, inner e.1) ∷ ms) o)
+  one_more e name None h = tt
+  one_more e name (Some ms) h = and_from (is_claim (inner e.1)) (hold false ms) (claims e.1) h
+
+  named_at : (e : Span × Span) (rest : Option (List Valued)) → AllHold rest → (o : Option Utf8) → AllHold (option_and_then (λ name. option_map (λ ms. (name, inner e.1) ∷ ms) rest) o)
+  named_at e rest h None = tt
+  named_at e rest h (Some name) = one_more e name rest h
+
+  values_hold : (es : Entries) → AllHold (named_values inner es)
+  values_hold [] = refl
+  values_hold (e ∷ es) = named_at e (named_values inner es) (values_hold es) (utf8_text_of e.0)
+
+  record_in : (o : Option (List Valued)) → AllHold o → is_claim (option_map_or (record_of false) o Other) ≡ true
+  record_in None h = refl
+  record_in (Some ms) h = record_claim false ms h
 
   none_held : (is : List Span) → list_any (λ h. h) (element_marks (elements_of (plain_parts inner is))) ≡ false
   none_held [] = refl
@@ -111,7 +103,7 @@ module _ (inner : Span → Tree) (claims : (i : Span) → is_claim (inner i) ≡
   claim_by kind.Bytes item = simple Bytes (λ b. refl) (bytes_of item)
   claim_by kind.Text item = simple Text (λ s. refl) (utf8_text_of item)
   claim_by kind.List item = list_claim item
-  claim_by kind.Map item = values_claim (entries_of item) [] (refl, refl)
+  claim_by kind.Map item = record_in (named_values inner (entries_of item)) (values_hold (entries_of item))
   claim_by kind.Tag item = content_at (tag_of item)
   claim_by kind.Truth item = simple Truth (λ b. refl) (truth_of item)
   claim_by kind.Null item = refl
@@ -124,17 +116,14 @@ value_claim (suc n) item = claim_by (value_at n) (value_claim n) (kind_of item) 
 
 -- ---- the tree of a document
 
-elements_claim : (is : List Signed) (ms : List Valued) → AreClaims true ms → AreClaims true (element_values is ms)
-elements_claim [] ms h = h
-elements_claim (i ∷ is) ms h = elements_claim is (put_value i.element (value_of i.value) ms) (claims-put true i.element (value_of i.value) ms (value_claim 32 i.value) h)
+elements_hold : (is : List Signed) → hold true (map (λ i. (i.element, value_of i.value)) is) ≡ true
+elements_hold [] = refl
+elements_hold (i ∷ is) = and_from (is_claim (value_of i.value)) (hold true (map (λ j. (j.element, value_of j.value)) is)) (value_claim 32 i.value) (elements_hold is)
 
-namespace_claim : (n : Namespace) → is_claim (namespace_tree n) ≡ true
-namespace_claim n = record_claim true (element_values n.items []) (elements_claim n.items [] (refl, refl))
-
-namespaces_claim : (ns : List Namespace) (ms : List Valued) → AreClaims true ms → AreClaims true (namespace_values ns ms)
-namespaces_claim [] ms h = h
-namespaces_claim (n ∷ ns) ms h = namespaces_claim ns (put_value n.name (namespace_tree n) ms) (claims-put true n.name (namespace_tree n) ms (namespace_claim n) h)
+namespaces_hold : (ns : List Namespace) → hold true (map (λ n. (n.name, namespace_tree n)) ns) ≡ true
+namespaces_hold [] = refl
+namespaces_hold (n ∷ ns) = and_from (is_claim (namespace_tree n)) (hold true (map (λ m. (m.name, namespace_tree m)) ns)) (record_claim true (map (λ i. (i.element, value_of i.value)) n.items) (elements_hold n.items)) (namespaces_hold ns)
 
 pub document_claim : (ns : List Namespace) → is_claim (document_tree ns) ≡ true
 unfolding document_tree
-document_claim ns = record_claim true (namespace_values ns []) (namespaces_claim ns [] (refl, refl))
+document_claim ns = record_claim true (map (λ n. (n.name, namespace_tree n)) ns) (namespaces_hold ns)

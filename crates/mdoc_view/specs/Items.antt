@@ -4,6 +4,7 @@ use Rattle.std.specs.Option.{option_map_or}
 use Rattle.std.specs.List.{list_any, list_all}
 use Rattle.std.specs.Str.{bytes_eq}
 use Rattle.rule_tables.specs.Rules.{rule, first}
+use Rattle.distinct_texts.specs.Texts.{differ}
 use Rattle.base_forms.specs.Hash.{digest_by}
 use Rattle.base_forms.specs.declared.hash.HashName.{HashName}
 use Rattle.cbor_core.specs.Views.{utf8_text_of, items_of, find_in}
@@ -52,15 +53,6 @@ most_items = 1_024
 abbrev pub item_count : Entries → ℕ
 item_count [] = 0
 item_count (e ∷ es) = length (items_of e.1) + item_count es
-
--- whether a text is among some
-abbrev pub is_among : Utf8 → List Utf8 → Bool
-is_among x xs = list_any (λ y. bytes_eq y x) xs
-
--- no text stands twice
-abbrev pub differ : List Utf8 → Bool
-differ [] = true
-differ (x ∷ xs) = not (is_among x xs) && differ xs
 
 abbrev pub elements_differ : Namespace → Bool
 elements_differ n = differ (map (λ i. i.element) n.items)

@@ -17,3 +17,4 @@ pub mod Conversions
 pub mod Judged
 pub mod Refusal
 pub mod Errors
+pub mod Sorted

@@ -1,9 +1,8 @@
 -- The claim tree of a mobile document: its namespaces, in each its elements, and the value of each (ISO/IEC 18013-5, section 8.3.2.1.2.2).
-use Rattle.std.specs.Prelude.{ℕ, zero, suc, Bool, true, false, List, [], ◌∷◌, map, Option, Some, option_and_then}
+use Rattle.std.specs.Prelude.{ℕ, zero, suc, Bool, true, false, ◌&&◌, List, [], ◌∷◌, map, Option, Some, option_map, option_and_then, if◌then◌else◌}
 use Rattle.std.specs.Option.{option_map_or}
-use Rattle.std.specs.Ordering.{nat_cmp}
+use Rattle.std.specs.Ordering.{nat_cmp, is_lt, match_ordering}
 use Rattle.std.specs.Cmp.Lexicographic.{slice_cmp}
-use Rattle.std.specs.BTreeMap.{insert_entry}
 use Rattle.claim_tree.specs.Tree.{Tree, Text, Whole, Truth, Null, Bytes, Other, ListOf, RecordOf}
 use Rattle.claim_tree.specs.Parts.{Part, Named, elements_of, members_of}
 use Rattle.cbor_core.specs.declared.kind.Kind.{Kind}
@@ -19,25 +18,38 @@ abbrev pub Valued : Type 0
 Valued = Utf8 × Tree
 
 -- one more, in its place by the bytes of its name
-abbrev pub put_value : Utf8 → Tree → List Valued → List Valued
-put_value name tree ms = insert_entry (slice_cmp nat_cmp) ms name tree
+abbrev pub placed : Valued → List Valued → List Valued
+placed m [] = m ∷ []
+placed m (l ∷ ls) = match_ordering (slice_cmp nat_cmp m.0 l.0) (m ∷ l ∷ ls) (m ∷ l ∷ ls) (l ∷ placed m ls)
+
+-- in the order of the names
+abbrev pub in_order : List Valued → List Valued
+in_order [] = []
+in_order (m ∷ ms) = placed m (in_order ms)
+
+-- each name stands before the next
+abbrev pub rise : List Valued → Bool
+rise [] = true
+rise (m ∷ []) = true
+rise (l ∷ m ∷ ms) = is_lt (slice_cmp nat_cmp l.0 m.0) && rise (m ∷ ms)
 
 abbrev pub marked : Bool → List Valued → List Named
 marked held ms = map (λ m. (m.0, held, m.1)) ms
 
+-- The record of named trees, each of them held or none. Where a name is doubled, as in no document that is read, it is of no kind.
 abbrev pub record_of : Bool → List Valued → Tree
-record_of held ms = RecordOf (members_of (marked held ms))
+record_of held ms = if rise (in_order ms) then RecordOf (members_of (marked held (in_order ms))) else Other
 
 -- ---- the tree of an item
 
--- the values of a map, put to those that are there, or none where a key is no text
-abbrev pub named_values : (Span → Tree) → Entries → List Valued → Option (List Valued)
-named_values inner [] ms = Some ms
-named_values inner (e ∷ es) ms = option_and_then (λ name. named_values inner es (put_value name (inner e.1) ms)) (utf8_text_of e.0)
+-- the values of a map by their names, or none where a key is no text
+abbrev pub named_values : (Span → Tree) → Entries → Option (List Valued)
+named_values inner [] = Some []
+named_values inner (e ∷ es) = option_and_then (λ name. option_map (λ ms. (name, inner e.1) ∷ ms) (named_values inner es)) (utf8_text_of e.0)
 
 -- a map whose keys are all texts, nothing of it held
 abbrev pub map_tree : (Span → Tree) → Span → Tree
-map_tree inner item = option_map_or (record_of false) (named_values inner (entries_of item) []) Other
+map_tree inner item = option_map_or (record_of false) (named_values inner (entries_of item)) Other
 
 abbrev pub plain_parts : (Span → Tree) → List Span → List Part
 plain_parts inner is = map (λ i. (false, inner i)) is
@@ -72,16 +84,8 @@ value_of item = value_at 32 item
 
 -- ---- the tree of a document: each namespace and each element is held
 
-abbrev pub element_values : List Signed → List Valued → List Valued
-element_values [] ms = ms
-element_values (i ∷ is) ms = element_values is (put_value i.element (value_of i.value) ms)
-
 abbrev pub namespace_tree : Namespace → Tree
-namespace_tree n = record_of true (element_values n.items [])
-
-abbrev pub namespace_values : List Namespace → List Valued → List Valued
-namespace_values [] ms = ms
-namespace_values (n ∷ ns) ms = namespace_values ns (put_value n.name (namespace_tree n) ms)
+namespace_tree n = record_of true (map (λ i. (i.element, value_of i.value)) n.items)
 
 unfoldable pub document_tree : List Namespace → Tree
-document_tree ns = record_of true (namespace_values ns [])
+document_tree ns = record_of true (map (λ n. (n.name, namespace_tree n)) ns)

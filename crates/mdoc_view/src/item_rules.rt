@@ -9,12 +9,12 @@ ghost use Rattle.mdoc_view.specs.Judged.{IsJudged};
 ghost use Rattle.mdoc_view.specs.Parts.{said_signed, said_namespace, said_object, entries_in};
 
 use crate::digests::{Digests, Numbers};
-use crate::distinct::are_distinct;
 use crate::error::NoMemory;
 use crate::items::{Namespace, Signed, are_too_many, read_namespaces};
 use crate::object::Object;
 use base_forms::HashName;
 use cbor_core::Item;
+use distinct_texts::are_distinct;
 use std::alloc::{AllocError, Global};
 
 /// What the namespaces say, or the first rule on signed items that is broken.

@@ -4,7 +4,6 @@
 mod credential;
 mod device_key;
 mod digests;
-mod distinct;
 mod error;
 mod issued;
 mod item_rules;

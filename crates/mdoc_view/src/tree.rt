@@ -5,20 +5,20 @@ ghost use Rattle.mdoc_view.specs.Value.{document_tree, namespace_tree};
 ghost use Rattle.mdoc_view.specs.Parts.{said_namespace};
 
 use crate::items::Namespace;
-use crate::value::{put, record, value_tree};
+use crate::value::{Named, record, value_tree};
 use claim_tree::OwnedTree;
 use std::alloc::{AllocError, Global};
-use std::collections::BTreeMap;
 
 /// The tree of a document's namespaces, in which each of them and each element is held.
 #[tactic(auto, unfolding(crate::specs::Value::document_tree))]
 pub fn document_tree(alloc: Global, namespaces: &[Namespace]) -> Result<OwnedTree, AllocError>
     ensures { IfOk result (λ t. tree_of t ≡ document_tree (map said_namespace namespaces.now)) }
 {
-    let mut members = BTreeMap::new(alloc);
+    let mut members = Vec::new(alloc);
     for namespace in namespaces {
         let tree = namespace_tree(alloc, namespace)?;
-        put(&mut members, namespace.name, tree)?;
+        let name = namespace.name;
+        members.push(Named { name, tree })?;
     }
     record(alloc, true, members)
 }
@@ -26,10 +26,11 @@ pub fn document_tree(alloc: Global, namespaces: &[Namespace]) -> Result<OwnedTre
 fn namespace_tree(alloc: Global, namespace: &Namespace) -> Result<OwnedTree, AllocError>
     ensures { IfOk result (λ t. tree_of t ≡ namespace_tree (said_namespace namespace.now)) }
 {
-    let mut members = BTreeMap::new(alloc);
+    let mut members = Vec::new(alloc);
     for item in namespace.items.as_slice() {
         let tree = value_tree(alloc, item.value)?;
-        put(&mut members, item.element, tree)?;
+        let name = item.element;
+        members.push(Named { name, tree })?;
     }
     record(alloc, true, members)
 }

@@ -1,17 +1,19 @@
 // The claim tree of an item.
-ghost use Rattle.std.specs.Prelude.{◌≡◌, IfOk, OnOk, map};
+ghost use Rattle.std.specs.Prelude.{◌≡◌, IfOk, map};
 ghost use Rattle.claim_tree.specs.Tree.{Text, Whole, Truth, Bytes, Other};
 ghost use Rattle.std.specs.Option.{option_map_or};
-ghost use Rattle.claim_tree.specs.Owned.{tree_of};
+ghost use Rattle.std.specs.Ordering.{nat_cmp, is_lt};
+ghost use Rattle.std.specs.Cmp.Lexicographic.{slice_cmp};
+ghost use Rattle.claim_tree.specs.Owned.{tree_of, named_of};
 ghost use Rattle.cbor_core.specs.Seen.{span_of};
 ghost use Rattle.cbor_core.specs.Views.{whole_of, bytes_of, utf8_text_of, truth_of};
-ghost use Rattle.mdoc_view.specs.Value.{record_of, put_value, map_tree, list_tree, content_tree, value_at, value_of};
-ghost use Rattle.mdoc_view.specs.Valued.{valued};
+ghost use Rattle.mdoc_view.specs.Value.{record_of, marked, rise, map_tree, list_tree, content_tree, value_at, value_of};
+ghost use Rattle.mdoc_view.specs.Valued.{value_in, valued};
+ghost use Rattle.mdoc_view.specs.Sorted.{AreSorted};
 
 use cbor_core::{Item, Kind};
 use claim_tree::{OwnedElement, OwnedMember, OwnedTree};
 use std::alloc::{AllocError, Global};
-use std::collections::BTreeMap;
 
 /// How many items may lie inside one another in an element's value, which lies in the map of its signed item.
 const LEVELS: usize = 32;
@@ -23,33 +25,68 @@ pub fn value_tree(alloc: Global, item: Item) -> Result<OwnedTree, AllocError>
     tree_at(alloc, LEVELS, item)
 }
 
-/// The record of some named trees, each of them held or none.
-pub fn record(
-    alloc: Global,
-    held: bool,
-    members: BTreeMap<&str, OwnedTree>,
-) -> Result<OwnedTree, AllocError>
-    ensures { IfOk result (λ t. tree_of t ≡ record_of held (valued members.entry.entries)) }
+/// A tree with its name.
+#[derive(Drop)]
+pub struct Named<'k> {
+    pub name: &'k str,
+    pub tree: OwnedTree,
+}
+
+/// The record of some named trees, each of them held or none; a value of no kind where a name is doubled.
+pub fn record(alloc: Global, held: bool, members: Vec<Named<'_>>) -> Result<OwnedTree, AllocError>
+    ensures { IfOk result (λ t. tree_of t ≡ record_of held (valued members.entry.items)) }
 {
-    let mut list = Vec::new(alloc);
-    for (name, tree) in members {
+    let members = sorted(members);
+    if rise(&members) {
+        Ok(OwnedTree::Record(owned(alloc, held, members)?))
+    } else {
+        Ok(OwnedTree::Other)
+    }
+}
+
+// The members with names of their own.
+fn owned(alloc: Global, held: bool, members: Vec<Named<'_>>) -> Result<Vec<OwnedMember>, AllocError>
+    ensures { IfOk result (λ list. map named_of list.items ≡ marked held (valued members.entry.items)) }
+{
+    let mut list = Vec::with_capacity(alloc, members.len())?;
+    for Named { name, tree } in members {
         let name = String::from_str(alloc, name)?;
         list.push(OwnedMember { name, held, tree })?;
     }
-    Ok(OwnedTree::Record(list))
+    Ok(list)
 }
 
-/// Puts a named tree to others.
-#[tactic(auto, using(crate::proofs::PutValues::put_valued))]
-pub fn put<'k>(
-    members: &mut BTreeMap<&'k str, OwnedTree>,
-    name: &'k str,
-    tree: OwnedTree,
-) -> Result<(), AllocError>
-    ensures { OnOk result (valued members.new.entries ≡ put_value name.now (tree_of tree) (valued members.old.entries)) }
+// The members in the order of their names.
+fn sorted(members: Vec<Named<'_>>) -> Vec<Named<'_>>
+    ensures { AreSorted (valued members.entry.items) (valued result.items) }
 {
-    members.insert(name, tree)?;
-    Ok(())
+    let mut members = members;
+    members.sort_unstable_by_key(|member| member.name);
+    members
+}
+
+// Whether the first name stands before the second.
+fn is_before(a: &Named<'_>, b: &Named<'_>) -> bool
+    ensures { result ≡ is_lt (slice_cmp nat_cmp (value_in a.now).0 (value_in b.now).0) }
+{
+    a.name < b.name
+}
+
+// Whether each name stands before the next.
+fn rise(members: &[Named<'_>]) -> bool
+    ensures { result ≡ rise (valued members.now) }
+{
+    let Some((first, rest)) = members.split_first() else {
+        return true;
+    };
+    let mut before = first;
+    for member in rest {
+        if !is_before(before, member) {
+            return false;
+        }
+        before = member;
+    }
+    true
 }
 
 #[cycle(tree)]
@@ -89,13 +126,13 @@ fn list_tree(alloc: Global, levels: usize, item: Item) -> Result<OwnedTree, Allo
 fn map_tree(alloc: Global, levels: usize, item: Item) -> Result<OwnedTree, AllocError>
     ensures { IfOk result (λ t. tree_of t ≡ map_tree (value_at levels) (span_of item.entry)) }
 {
-    let mut members = BTreeMap::new(alloc);
+    let mut members = Vec::new(alloc);
     for (key, value) in item.entries() {
         let Some(name) = key.text() else {
             return Ok(OwnedTree::Other);
         };
         let tree = tree_at(alloc, levels, value)?;
-        put(&mut members, name, tree)?;
+        members.push(Named { name, tree })?;
     }
     record(alloc, false, members)
 }

@@ -1,9 +1,10 @@
-use Rattle.std.proofs.Common.{◌≡◌, ◌+◌, ◌*◌, [], ◌++◌, map}
+use Rattle.std.proofs.Common.{◌≡◌, ◌+◌, ◌*◌, ◌++◌, map}
 use Rattle.claim_tree.specs.Owned.{part_of}
 use Rattle.cbor_core.specs.Seen.{span_of, items_left, entries_left}
 use Rattle.cbor_core.specs.Views.{items_of, entries_of}
 use Rattle.mdoc_view.specs.Value.{plain_parts, named_values, value_at}
 use Rattle.mdoc_view.specs.Valued.{valued}
+use Rattle.mdoc_view.specs.Prefixed.{prefixed}
 use Rattle.mdoc_view.proofs.value.+tree.Given as goal
 
 abbrev pub decreases-tree_at : goal.decreases-tree_at
@@ -29,5 +30,5 @@ abbrev pub invariant-map_tree-loop-key : goal.invariant-map_tree-loop-key
 invariant-map_tree-loop-key l = record {
   can_next : (goal.iterator-map_tree-loop-key).can_next l.key-iterator;
   is_finite : (goal.iterator-map_tree-loop-key).is_finite l.key-iterator;
-  left : named_values (value_at l.levels) (entries_left l.key-iterator) (valued l.members.entries) ≡ named_values (value_at l.levels) (entries_of (span_of l.fn.item)) [];
+  left : prefixed (valued l.members.items) (named_values (value_at l.levels) (entries_left l.key-iterator)) ≡ named_values (value_at l.levels) (entries_of (span_of l.fn.item));
 }
