@@ -1,5 +1,5 @@
 -- What was asked for by one call after another.
-use Rattle.std.proofs.Common.{◌≡◌, ◌≤◌, ◌++◌, inl, inr, ℕ, List, [], ◌∷◌, Option, None, Some, Result, option_map, refl, sym, ap, ◌∙◌, append_assoc, append-nil}
+use Rattle.std.proofs.Common.{◌≡◌, ◌≤◌, ◌++◌, inl, inr, true, ℕ, List, [], ◌∷◌, Option, None, Some, Result, option_map, refl, sym, ap, ◌∙◌, append_assoc, append-nil}
 use Rattle.std.specs.Prelude.{IsErrOf}
 use Rattle.outside.specs.Causes.{Rose}
 use Rattle.outside.specs.Store.{Names, Asks}
@@ -7,9 +7,13 @@ use Rattle.outside.specs.declared.error.StoreError.{StoreError}
 use Rattle.outside.specs.declared.error.StoreError.TheVariants as store
 use Rattle.program_steps.specs.declared.stop.Stop.{Stop}
 use Rattle.program_steps.specs.declared.stop.Stop.TheVariants.{Refused, Failed, NoMemory}
-use Rattle.program_steps.specs.Asking.{AsksAll, AsksFront, AsksToFault, StopsAsking}
-use Rattle.program_steps.specs.Outcome.{Outcome}
-use Rattle.program_steps.specs.Plan.{unless_ended}
+use Rattle.outside.specs.declared.status.Status.{Status}
+use Rattle.outside.specs.declared.status.Status.TheVariants as ends
+use Rattle.program_steps.specs.Asking.{AsksAll, AsksFront, AsksToFault, StopsAsking, EndsAsking}
+use Rattle.program_steps.specs.Ends.{Ends}
+use Rattle.program_steps.specs.Outcome.{Outcome, ends_with}
+use Rattle.program_steps.specs.Own.{is_own}
+use Rattle.program_steps.specs.Plan.{Step, asks, looks, file, unless_ended, reached}
 use Rattle.program_steps.specs.Replies.{Refuses}
 use Rattle.program_steps.proofs.Plans.{rose_from}
 
@@ -92,3 +96,52 @@ stops_asking_past first before after old mid new name refusal later stop earlier
 pub all_past : (old mid new : Option Names) (name : List ℕ) (refusal : Option Outcome) (later : Names)
     → refusal ≡ None → AsksAll old mid (name ∷ []) → AsksAll mid new later → AsksAll old new (name ∷ unless_ended refusal later)
 all_past old mid new name refusal later passed one two = rw passed (all_after old mid new (name ∷ []) later one two)
+
+-- ---- steps that ask for no file
+
+pub none_after : (refusal : Option Outcome) → unless_ended refusal [] ≡ []
+none_after None = refl
+none_after (Some outcome) = refl
+
+-- steps that ask for none, after others
+pub reached_before : (steps later : List Step) → reached later ≡ [] → reached (steps ++ later) ≡ reached steps
+reached_before [] later none = none
+reached_before (asks (file name) refusal ∷ steps) later none = ap (λ (names : Names). name ∷ unless_ended refusal names) (reached_before steps later none)
+reached_before (looks refusal ∷ steps) later none = ap (unless_ended refusal) (reached_before steps later none)
+
+-- ---- the end of a run
+
+all_at : (before after : List ℕ → ℕ) (old new : Option Names) (names : Names) (status : Status) → is_own status ≡ true → AsksAll old new names → EndsAsking before after old new names status
+all_at before after old new names ends.Done own asked = asked
+all_at before after old new names ends.Usage own asked = asked
+all_at before after old new names ends.RequestRefused own asked = asked
+all_at before after old new names ends.NoOption own asked = asked
+all_at before after old new names ends.ReadFault own asked = absurd (cc)
+all_at before after old new names ends.WriteFault own asked = absurd (cc)
+all_at before after old new names ends.FileRefused own asked = asked
+all_at before after old new names ends.TooLong own asked = asked
+all_at before after old new names ends.NoMemory own asked = absurd (cc)
+all_at before after old new names ends.NotOne own asked = asked
+
+front_of_fault : (before after : List ℕ → ℕ) (old new : Option Names) (names : Names) → AsksToFault before after old new names → AsksFront old new names
+front_of_fault before after old new names (front, name, rest, is, rose, asked) = (front ++ name ∷ [], rest, is ∙ sym (append_assoc front (name ∷ []) rest), asked)
+
+-- the run writes this outcome, which is one of its own
+pub ends_asking : (before after : List ℕ → ℕ) (old new : Option Names) (names : Names) (owed : Outcome) (faults_before faults_after : ℕ) (written_before written_after : Option (List ℕ)) (status : Status)
+    → is_own owed.status ≡ true → Ends owed faults_before faults_after written_before written_after status
+    → AsksAll old new names → EndsAsking before after old new names status
+ends_asking before after old new names owed faults_before faults_after written_before written_after status own (inl written) asked =
+    rw written.0 (all_at before after old new names owed.status own asked)
+ends_asking before after old new names owed faults_before faults_after written_before written_after status own (inr (inl broken)) asked =
+    rw broken.0 (inl asked)
+ends_asking before after old new names owed faults_before faults_after written_before written_after status own (inr (inr given_up)) asked =
+    rw given_up.0 (front_of_all old new names asked)
+
+-- the run writes the line of a read's fault
+pub ends_asking_fault : (before after : List ℕ → ℕ) (old new : Option Names) (names : Names) (text : List ℕ) (faults_before faults_after : ℕ) (written_before written_after : Option (List ℕ)) (status : Status)
+    → Ends (ends_with ends.ReadFault text) faults_before faults_after written_before written_after status
+    → AsksToFault before after old new names → EndsAsking before after old new names status
+ends_asking_fault before after old new names text faults_before faults_after written_before written_after status (inl written) asked = rw written.0 asked
+ends_asking_fault before after old new names text faults_before faults_after written_before written_after status (inr (inl broken)) asked = rw broken.0 (inr asked)
+ends_asking_fault before after old new names text faults_before faults_after written_before written_after status (inr (inr given_up)) asked =
+    rw given_up.0 (front_of_fault before after old new names asked)

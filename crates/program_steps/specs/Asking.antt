@@ -1,10 +1,10 @@
 -- What was asked of a store: its counts of faults by name, and the names that were asked for where it tells them, both before and
 -- after a call, against the names that the call is to ask for.
-use Rattle.std.specs.Prelude.{◌≡◌, ◌≢◌, ℕ, List, [], ◌∷◌, ◌++◌, Option, Result, Ok, Err, option_map}
+use Rattle.std.specs.Prelude.{◌≡◌, ◌⊎◌, ℕ, List, [], ◌∷◌, ◌++◌, Option, Result, Ok, Err, option_map}
 use Rattle.outside.specs.Causes.{Rose}
 use Rattle.outside.specs.Store.{Names}
 use Rattle.outside.specs.declared.status.Status.{Status}
-use Rattle.outside.specs.declared.status.Status.TheVariants.{ReadFault, NoMemory}
+use Rattle.outside.specs.declared.status.Status.TheVariants.{ReadFault, WriteFault, NoMemory}
 use Rattle.program_steps.specs.declared.stop.Stop.{Stop}
 use Rattle.program_steps.specs.declared.stop.Stop.TheVariants as stop
 
@@ -33,8 +33,10 @@ abbrev pub AsksFor : {T : Type 0} → (List ℕ → ℕ) → (List ℕ → ℕ) 
 AsksFor before after old new names (Ok value) = AsksAll old new names
 AsksFor before after old new names (Err stop) = StopsAsking before after old new names stop
 
--- the same by the status that a run ends with
-pub record EndsAsking (before after : List ℕ → ℕ) (old new : Option Names) (names : Names) (status : Status) : Type 0 where
-  pub all : status ≢ ReadFault → status ≢ NoMemory → AsksAll old new names
-  pub fault : status ≡ ReadFault → AsksToFault before after old new names
-  pub front : AsksFront old new names
+-- The same by the status that a run ends with: all of them but where a read failed or memory was wanting. Where the sink failed, it
+-- may have failed in the line of a read's fault.
+abbrev pub EndsAsking : (List ℕ → ℕ) → (List ℕ → ℕ) → Option Names → Option Names → Names → Status → Type 0
+EndsAsking before after old new names ReadFault = AsksToFault before after old new names
+EndsAsking before after old new names WriteFault = AsksAll old new names ⊎ AsksToFault before after old new names
+EndsAsking before after old new names NoMemory = AsksFront old new names
+EndsAsking before after old new names status = AsksAll old new names

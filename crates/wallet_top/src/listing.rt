@@ -1,8 +1,9 @@
 // The command `list`: which credentials of a wallet match a query of one credential.
-ghost use Rattle.std.specs.Prelude.{◌≡◌, ◌≤◌, ◌++◌, ◌||◌, ℕ, List, None, map, IfOk, IfErr, IfSome, string_bytes};
+ghost use Rattle.std.specs.Prelude.{◌≡◌, ◌≤◌, ◌∷◌, [], ◌++◌, ◌||◌, ℕ, List, None, map, IfOk, IfErr, IfSome, string_bytes};
 ghost use Rattle.std.specs.List.{list_any};
 ghost use Rattle.std.specs.Option.{option_copied};
-ghost use Rattle.program_steps.specs.Plan.{ArePassed, IsFile};
+ghost use Rattle.program_steps.specs.Asking.{AsksFor};
+ghost use Rattle.program_steps.specs.Plan.{ArePassed, IsFile, reached};
 ghost use Rattle.program_steps.specs.Reading.{within_limit};
 ghost use Rattle.program_steps.specs.Replies.{outcome, Refuses, IsReadCause, StopsWithin, Replies, Blames};
 ghost use Rattle.wallet_top.specs.Command.{list_credentials, MayAsk, counts};
@@ -37,6 +38,8 @@ pub fn list_credentials<S: Store>(
     ensures later { (name : List ℕ) → S.faults store.old name ≤ S.faults store.new name }
     ensures reply { IfSome (S.files store.old) (λ files.
         Replies (counts (S.faults store.old)) (counts (S.faults store.new)) (list_plan query.now wallet.now files) result) }
+    ensures asked { IfSome (S.files store.old) (λ files.
+        AsksFor (S.faults store.old) (S.faults store.new) (S.asked store.old) (S.asked store.new) (reached (list_plan query.now wallet.now files).steps) result) }
     ensures blame { IfErr result (λ stop.
         Blames (counts (S.faults store.old)) (counts (S.faults store.new)) (MayAsk (list_credentials query.now wallet.now)) stop) }
 {
@@ -80,6 +83,8 @@ fn list_entries<S: Store>(
         listing.has_match ≡ list_any is_match (findings (option_copied asked.entry) files (map meant entries.now)))) }
     ensures stopped { IfSome (S.files store.old) (λ files. IfErr result (λ stop.
         StopsWithin (counts (S.faults store.old)) (counts (S.faults store.new)) (credential_steps files (map meant entries.now)) stop)) }
+    ensures asked { IfSome (S.files store.old) (λ files.
+        AsksFor (S.faults store.old) (S.faults store.new) (S.asked store.old) (S.asked store.new) (reached (credential_steps files (map meant entries.now))) result) }
     ensures blame { IfErr result (λ stop.
         Blames (counts (S.faults store.old)) (counts (S.faults store.new)) IsFile stop) }
 {
@@ -105,6 +110,7 @@ fn find<S: Store>(
 ) -> Result<Finding, Stop>
     ensures same { S.files store.new ≡ S.files store.old }
     ensures later { (name : List ℕ) → S.faults store.old name ≤ S.faults store.new name }
+    ensures asked { AsksFor (S.faults store.old) (S.faults store.new) (S.asked store.old) (S.asked store.new) ((meant entry.now).file ∷ []) result }
     ensures passed { IfSome (S.files store.old) (λ files. IfOk result (λ _.
         within_limit credential_limit (meant entry.now).file (files (meant entry.now).file) ≡ None)) }
     ensures finding { IfSome (S.files store.old) (λ files. IfOk result (λ finding.

@@ -3,7 +3,8 @@ ghost use Rattle.std.specs.Prelude.{◌≡◌, ◌≢◌, ◌≤◌, ℕ, List, 
 ghost use Rattle.std.specs.Io.KnownBytes.{Appends};
 ghost use Rattle.outside.specs.Causes.{Rose};
 ghost use Rattle.program_steps.specs.Outcome.{read_fault};
-ghost use Rattle.program_steps.specs.Plan.{outcome_of, asked, IsFaultFrom, NoneRose};
+ghost use Rattle.program_steps.specs.Asking.{AsksFor, EndsAsking};
+ghost use Rattle.program_steps.specs.Plan.{outcome_of, asked, reached, IsFaultFrom, NoneRose};
 ghost use Rattle.program_steps.specs.Replies.{Replies, Blames};
 ghost use Rattle.program_steps.specs.Ends.{Answers};
 ghost use Rattle.wallet_top.specs.Command.{command_of, plan_of, plan_of_command, MayAsk, MayBeAsked, counts};
@@ -38,6 +39,11 @@ pub fn run<S: Store, O: Sink>(alloc: Global, words: &[String], store: &mut S, ou
         → ¬ Rose (O.faults out.old) (O.faults out.new) → result ≢ Status.NoMemory
         → (result ≡ (outcome_of plan).status) × Appends (O.written out.old) (O.written out.new) (outcome_of plan).text) }
 
+    // What is asked of the store is what the plan's steps ask up to the first that refuses, each once and in that order: all of
+    // it, or up to a fault that was counted, or a front of it where memory was wanting.
+    ensures asked { IfSome (plan_of (command_of (map string_bytes words.now)) (S.files store.old)) (λ plan.
+        EndsAsking (S.faults store.old) (S.faults store.new) (S.asked store.old) (S.asked store.new) (reached plan.steps) result) }
+
     // Over every store and sink, whether they tell or not.
     ensures usage { result ≡ Status.Usage → command_of (map string_bytes words.now) ≡ None }
     ensures no_command { command_of (map string_bytes words.now) ≡ None → result ≢ Status.WriteFault → result ≡ Status.Usage }
@@ -66,6 +72,8 @@ fn perform<S: Store>(alloc: Global, command: Command<'_>, store: &mut S) -> Resu
     ensures later { (name : List ℕ) → S.faults store.old name ≤ S.faults store.new name }
     ensures reply { IfSome (S.files store.old) (λ files.
         Replies (counts (S.faults store.old)) (counts (S.faults store.new)) (plan_of_command (meaning command.entry) files) result) }
+    ensures asked { IfSome (S.files store.old) (λ files.
+        AsksFor (S.faults store.old) (S.faults store.new) (S.asked store.old) (S.asked store.new) (reached (plan_of_command (meaning command.entry) files).steps) result) }
     ensures blame { IfErr result (λ stop.
         Blames (counts (S.faults store.old)) (counts (S.faults store.new)) (MayAsk (meaning command.entry)) stop) }
 {

@@ -1,6 +1,8 @@
 // The command `try`: which lines of a file match a query of one credential.
 ghost use Rattle.std.specs.Prelude.{◌≡◌, ◌≤◌, ℕ, List, IfOk, IfErr, IfSome, string_bytes};
 ghost use Rattle.serde_json.specs.View.{view};
+ghost use Rattle.program_steps.specs.Asking.{AsksFor};
+ghost use Rattle.program_steps.specs.Plan.{reached};
 ghost use Rattle.program_steps.specs.Replies.{outcome, Replies, Blames};
 ghost use Rattle.dcql_query.specs.Meaning.{query_of};
 ghost use Rattle.wallet_top.specs.Command.{try_query, MayAsk, counts};
@@ -31,6 +33,8 @@ pub fn try_query<S: Store>(
     ensures later { (name : List ℕ) → S.faults store.old name ≤ S.faults store.new name }
     ensures reply { IfSome (S.files store.old) (λ files.
         Replies (counts (S.faults store.old)) (counts (S.faults store.new)) (try_plan query.now trees.now files) result) }
+    ensures asked { IfSome (S.files store.old) (λ files.
+        AsksFor (S.faults store.old) (S.faults store.new) (S.asked store.old) (S.asked store.new) (reached (try_plan query.now trees.now files).steps) result) }
     ensures blame { IfErr result (λ stop.
         Blames (counts (S.faults store.old)) (counts (S.faults store.new)) (MayAsk (try_query query.now trees.now)) stop) }
 {
