@@ -1,8 +1,10 @@
 // The rules of queries, and what a query means that breaks none.
-use crate::{Error, Query, claims_met};
+use crate::{CredentialQuery, Error, Query, claims_met};
 use claim_tree::{Format, PlainTree};
 use serde_json::Value;
+use std::fmt::Write;
 use std::rt::HostRuntime;
+use std::test::Fail;
 
 // The least rule that each text breaks as a query.
 #[test]
@@ -296,4 +298,48 @@ fn query_is_read(rt: HostRuntime) {
     assert!(rt; !claims_met(person, 0, tree.root()));
     assert!(rt; claims_met(person, 1, tree.root()));
     assert!(rt; claims_met(other, 0, tree.root()));
+}
+
+// Two credential sets over three credential queries, with types and with claims but no claim sets.
+const TRIP: &str =
+    "{\"credentials\":[{\"id\":\"a\",\"format\":\"dc+sd-jwt\",\"meta\":{\"vct_values\":[\"k\",\"l\"]}},{\"id\":\"b\",\"format\":\"mso_mdoc\",\"meta\":{\"doctype_value\":\"d\"}},{\"id\":\"c\",\"format\":\"mso_mdoc\",\"meta\":{\"vct_values\":[\"k\"]},\"claims\":[{\"path\":[\"n\",\"m\"]},{\"path\":[\"n\",\"o\"]}]}],\"credential_sets\":[{\"options\":[[\"b\",\"a\"],[\"c\"],[\"c\",\"c\"]]},{\"options\":[[\"a\"]],\"required\":false}]}";
+
+// The claims of each claim set, and the types of a credential query, in a text.
+fn outline(rt: &HostRuntime, query: &CredentialQuery) -> Result<String, Fail> {
+    let mut text = String::new(rt.alloc());
+    for set in &query.sets {
+        for place in set {
+            write!(text, "{place} ")?;
+        }
+        text.push(';')?;
+    }
+    if let Some(kinds) = &query.kinds {
+        for kind in kinds {
+            write!(text, " {}", kind.as_str())?;
+        }
+        text.push('.')?;
+    }
+    Ok(text)
+}
+
+#[test]
+fn sets_and_types_are_read(rt: HostRuntime) -> Result<(), Fail> {
+    let value = Value::from_str(rt.alloc(), TRIP)?;
+    let query = Query::from_json(rt.alloc(), &value)?;
+    let mut text = String::new(rt.alloc());
+    for credential in &query.credentials {
+        writeln!(text, "{}", outline(&rt, credential)?)?;
+    }
+    assert_eq!(rt; text.as_str(), "; k l.\n; d.\n0 1 ;\n");
+    let mut text = String::new(rt.alloc());
+    if let Some(sets) = &query.sets {
+        for set in sets {
+            for option in &set.options {
+                write!(text, "{option:03b} ")?;
+            }
+            writeln!(text, "{}", set.required)?;
+        }
+    }
+    assert_eq!(rt; text.as_str(), "011 100 100 true\n001 false\n");
+    Ok(())
 }
