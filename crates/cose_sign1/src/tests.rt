@@ -9,7 +9,9 @@ use claim_tree::Alg;
 fn refusals(rt: HostRuntime) {
     let alloc = rt.alloc();
     for (hex, awaited, rule) in [
+        ("00", Payload::Inside, 1),
         ("d38443a10126a0416140", Payload::Inside, 1),
+        ("d2d28443a10126a0416140", Payload::Inside, 1),
         ("8343a10126a04161", Payload::Inside, 1),
         ("8543a10126a041614040", Payload::Inside, 1),
         ("84a0a0416140", Payload::Inside, 1),
@@ -18,6 +20,13 @@ fn refusals(rt: HostRuntime) {
         ("8443a10126a04161f6", Payload::Inside, 1),
         ("844101a0416140", Payload::Inside, 2),
         ("8444a1012600a0416140", Payload::Inside, 2),
+        ("8445a201260126a0416140", Payload::Inside, 2),
+        (
+            // 33 levels.
+            "845824a20126098181818181818181818181818181818181818181818181818181818181818180a0416140",
+            Payload::Inside,
+            2,
+        ),
         ("8440a0416140", Payload::Inside, 3),
         ("8444a1016161a0416140", Payload::Inside, 3),
         ("8440a10126416140", Payload::Inside, 3),
@@ -36,17 +45,20 @@ fn refusals(rt: HostRuntime) {
     }
 }
 
-// The names of issuers, from the unprotected headers first.
+// The names of issuers, from the unprotected headers first. The certificate is `abc`, whose digest is that of FIPS 180-4.
 #[test]
 fn issuers(rt: HostRuntime) {
     let alloc = rt.alloc();
     let certified = "x5:ba7816bf8f01cfea414140de5dae2223b00361a396177a9cb410ff61f20015ad";
     for (hex, awaited, name) in [
+        // No header; a key's identifier, unprotected, protected, in both, and as a text.
         ("8443a10126a0416140", Payload::Inside, "mkid:"),
         ("d28443a10126a0f640", Payload::Detached, "mkid:"),
         ("8443a10126a1044131416140", Payload::Inside, "mkid:31"),
         ("8446a20126044132a0416140", Payload::Inside, "mkid:32"),
         ("8446a20126044132a1044131416140", Payload::Inside, "mkid:31"),
+        ("8446a20126044132a1046131416140", Payload::Inside, "mkid:32"),
+        // A certificate, a chain of one and of two, protected, and in both.
         ("8443a10126a1182143616263416140", Payload::Inside, certified),
         (
             "8443a10126a118218143616263416140",
@@ -54,10 +66,24 @@ fn issuers(rt: HostRuntime) {
             certified,
         ),
         (
+            "8443a10126a1182182436162634161416140",
+            Payload::Inside,
+            certified,
+        ),
+        ("8449a20126182143616263a0416140", Payload::Inside, certified),
+        (
+            "8446a20126182140a1182143616263416140",
+            Payload::Inside,
+            certified,
+        ),
+        // A text in place of the certificate, in the headers looked at first and alone; an empty chain beside a key.
+        (
             "8449a20126182143616263a118216161416140",
             Payload::Inside,
             certified,
         ),
+        ("8443a10126a11821816161416140", Payload::Inside, "mkid:"),
+        ("8443a10126a2044131182180416140", Payload::Inside, "mkid:31"),
     ] {
         let bytes = from_hex(alloc, hex).expect(&rt, "hexadecimal");
         let item = read_one(alloc, &bytes, 32).expect(&rt, "an item");
@@ -68,15 +94,23 @@ fn issuers(rt: HostRuntime) {
     }
 }
 
+// The example of RFC 9052, appendix C.2.1, whose signature is over the bytes at the end.
 #[test]
-fn signed_bytes(rt: HostRuntime) {
+fn a_message_of_the_standard(rt: HostRuntime) {
     let alloc = rt.alloc();
-    let bytes = from_hex(alloc, "8443a10126a0416140").expect(&rt, "hexadecimal");
+    let hex =
+        "d28443a10126a10442313154546869732069732074686520636f6e74656e742e58408eb33e4ca31d1c465ab05aac34cc6b23d58fef5c083106c4d25a91aef0b0117e2af9a291aa32e14ab834dc56ed2a223444547e01f11d3b0916e5a4c345cacb36";
+    let bytes = from_hex(alloc, hex).expect(&rt, "hexadecimal");
     let item = read_one(alloc, &bytes, 32).expect(&rt, "an item");
     let message = Sign1::read(alloc, item, Payload::Inside).expect(&rt, "a signed message");
-    assert!(rt; message.payload() == Some(b"a".as_slice()));
-    assert!(rt; message.signature().is_empty());
-    let signed = message.to_be_signed(alloc, b"a").expect(&rt, "bytes");
-    let hex = to_hex(alloc, &signed).expect(&rt, "hexadecimal");
-    assert_eq!(rt; hex.as_str(), "846a5369676e61747572653143a10126404161");
+    assert!(rt; message.payload() == Some(b"This is the content.".as_slice()));
+    assert!(rt; message.signature().len() == 64);
+    let signed = message
+        .to_be_signed(alloc, b"This is the content.")
+        .expect(&rt, "bytes");
+    let written = to_hex(alloc, &signed).expect(&rt, "hexadecimal");
+    assert_eq!(rt;
+        written.as_str(),
+        "846a5369676e61747572653143a101264054546869732069732074686520636f6e74656e742e"
+    );
 }
