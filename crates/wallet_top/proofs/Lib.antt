@@ -1,3 +1,4 @@
+pub mod Askings
 pub mod Feeds
 pub mod Listings
 pub mod ListPlans

@@ -20,7 +20,7 @@ both_told P F Q both None p f = tt
 both_told P F Q both (Some files) p f = both files p f
 
 -- the entries from place i on begin with the one there
-rest_is : (es : List Entry) (i : ℕ) (e : Entry) → i < length es → e ≡ get_or es i e → drop i es ≡ e ∷ drop (i + 1) es
+pub rest_is : (es : List Entry) (i : ℕ) (e : Entry) → i < length es → e ≡ get_or es i e → drop i es ≡ e ∷ drop (i + 1) es
 rest_is es i e h is =
     let next : suc i ≡ i + 1 = omega arith in
     drop-cons es i e h ∙ ap (λ n. get_or es i e ∷ drop n es) next ∙ ap (λ x. x ∷ drop (i + 1) es) (sym is)

@@ -7,6 +7,7 @@ use Rattle.program_steps.specs.Replies.{StopsWithin}
 use Rattle.program_steps.specs.declared.stop.Stop.{Stop}
 use Rattle.wallet_top.specs.Entries.{meant}
 use Rattle.wallet_top.specs.Listing.{findings, finding_lines, is_match, credential_steps}
+use Rattle.wallet_top.proofs.Askings.{AskedSoFar}
 use Rattle.wallet_top.proofs.listing.list_entries.Given as goal
 
 abbrev pub invariant-loop-entry : goal.invariant-loop-entry
@@ -25,4 +26,6 @@ invariant-loop-entry g l = record {
   stopped : IfSome (g.S.Store.files l.initial.store) (λ files. (before after : Counts) (stop : Stop)
       → StopsWithin before after (credential_steps files (map meant (drop l.entry-index l.entries))) stop
       → StopsWithin before after (credential_steps files (map meant l.entries)) stop);
+  asked : IfSome (g.S.Store.files l.initial.store) (λ files.
+      AskedSoFar files (g.S.Store.asked l.initial.store) (g.S.Store.asked l.store) (map meant l.entries) (map meant (drop l.entry-index l.entries)));
 }

@@ -1,4 +1,4 @@
-use Rattle.std.proofs.Common.{◌≡◌, ℕ, List, Option, Some, None, inl, inr, refl, sym, subst}
+use Rattle.std.proofs.Common.{◌≡◌, ℕ, List, Option, Some, None, inl, inr, refl, sym, subst, codes}
 use Rattle.std.specs.Prelude.{IfSome}
 use Rattle.std.specs.Io.KnownBytes.{Keeps}
 use Rattle.outside.specs.declared.status.Status.TheVariants.{NoMemory}
@@ -12,6 +12,8 @@ use Rattle.program_steps.specs.Replies.{Stops, line_of}
 use Rattle.program_steps.specs.declared.stop.Fault.{Fault}
 use Rattle.program_steps.specs.declared.stop.Stop.{Stop}
 use Rattle.program_steps.specs.declared.stop.Stop.TheVariants.{Failed}
+use Rattle.program_steps.specs.Outcome.{ends_with}
+use Rattle.wallet_top.proofs.Askings.{run_asks, run_asks_till, run_asks_to_fault}
 use Rattle.wallet_top.proofs.top.run.Goals as goal
 
 keeps : (bytes : Option (List ℕ)) → Keeps bytes bytes
@@ -41,3 +43,21 @@ pub returns-in-Err-Failed-Read-clause-complete : goal.returns-in-Err-Failed-Read
 returns-in-Err-Failed-Read-clause-complete g c =
     rw (sym c.in-Some.ensures) (counted (meaning c.in-Some.command) (g.S.Store.files c.args.store.now) (counts (g.S.Store.faults c.args.store.now)) (counts (g.S.Store.faults c.perform.new.store))
     c.in-Err-Failed-Read.field-0-0 c.in-Err-Failed-Read.field-0 _ c.in-Err-Failed-Read.field-0-is c.in-Err-Failed-Read.ensures.reply)
+
+pub returns-in-Ok-clause-asked : goal.returns-in-Ok-clause-asked
+returns-in-Ok-clause-asked g c =
+    rw (sym c.in-Some.ensures) (run_asks (meaning c.in-Some.command) (g.S.Store.files c.args.store.now) (g.S.Store.faults c.args.store.now) (g.S.Store.faults c.perform.new.store) (g.S.Store.asked c.args.store.now) (g.S.Store.asked c.perform.new.store)
+    (ends_with c.in-Ok.reply.status c.as_str.result.now) (g.O.Sink.faults c.args.out.now) (g.O.Sink.faults c.finish-in-Ok.new.out) (g.O.Sink.written c.args.out.now) (g.O.Sink.written c.finish-in-Ok.new.out) c.finish-in-Ok.result
+    c.in-Ok.reply.own c.finish-in-Ok.ensures.ends c.in-Ok.ensures.asked)
+
+pub returns-in-Err-Refused-clause-asked : goal.returns-in-Err-Refused-clause-asked
+returns-in-Err-Refused-clause-asked g c =
+    rw (sym c.in-Some.ensures) (run_asks_till (meaning c.in-Some.command) (g.S.Store.files c.args.store.now) (g.S.Store.faults c.args.store.now) (g.S.Store.faults c.perform.new.store) (g.S.Store.asked c.args.store.now) (g.S.Store.asked c.perform.new.store)
+    (ends_with c.in-Err-Refused.reply.status c.as_str-in-Err-Refused.result.now) (g.O.Sink.faults c.args.out.now) (g.O.Sink.faults c.finish-in-Err-Refused.new.out) (g.O.Sink.written c.args.out.now) (g.O.Sink.written c.finish-in-Err-Refused.new.out) c.finish-in-Err-Refused.result
+    c.in-Err-Refused.field-0 c.in-Err-Refused.reply c.in-Err-Refused.reply.own c.finish-in-Err-Refused.ensures.ends c.in-Err-Refused.field-0-is c.in-Err-Refused.ensures.asked)
+
+pub returns-in-Err-Failed-Read-clause-asked : goal.returns-in-Err-Failed-Read-clause-asked
+returns-in-Err-Failed-Read-clause-asked g c =
+    rw (sym c.in-Some.ensures) (run_asks_to_fault (meaning c.in-Some.command) (g.S.Store.files c.args.store.now) (g.S.Store.faults c.args.store.now) (g.S.Store.faults c.perform.new.store) (g.S.Store.asked c.args.store.now) (g.S.Store.asked c.perform.new.store)
+    (codes "read fault\n") (g.O.Sink.faults c.args.out.now) (g.O.Sink.faults c.finish-in-Err-Failed-Read.new.out) (g.O.Sink.written c.args.out.now) (g.O.Sink.written c.finish-in-Err-Failed-Read.new.out) c.finish-in-Err-Failed-Read.result
+    c.in-Err-Failed-Read.field-0 c.in-Err-Failed-Read.field-0-0 c.finish-in-Err-Failed-Read.ensures.ends c.in-Err-Failed-Read.field-0-is c.in-Err-Failed-Read.ensures.asked)
