@@ -154,9 +154,9 @@ one_more files old now next es i e h is passed asked so_far =
       front = so_far.front ++ name ∷ [];
       asked = all_after old now next so_far.front (name ∷ []) so_far.asked asked;
       then = so_far.then
-      ∙ ap (λ (ds : List Entry). so_far.front ++ reached (credential_steps files (map meant ds))) (rest_is es i e h is)
-      ∙ ap (λ (r : Option Outcome). so_far.front ++ (name ∷ unless_ended r rest)) passed
-      ∙ sym (append_assoc so_far.front (name ∷ []) rest);
+          ∙ ap (λ (ds : List Entry). so_far.front ++ reached (credential_steps files (map meant ds))) (rest_is es i e h is)
+          ∙ ap (λ (r : Option Outcome). so_far.front ++ (name ∷ unless_ended r rest)) passed
+          ∙ sym (append_assoc so_far.front (name ∷ []) rest);
     }
 
 pub stops_at_entry : (files : Files) (first before after : List ℕ → ℕ) (old now new : Option Names) (es : List Entry) (i : ℕ) (e : Entry) (stop : Stop)

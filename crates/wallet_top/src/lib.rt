@@ -19,6 +19,8 @@ mod wallet;
 pub use top::run;
 
 #[cfg(test)]
+mod asking_tests;
+#[cfg(test)]
 mod list_tests;
 #[cfg(test)]
 mod tests;

@@ -158,6 +158,13 @@ fn documents(rt: HostRuntime) -> Result<(), Fail> {
         ),
         (name, "x", Status::NoOption, "note 0 unreadable 0\nnone\n"),
         (name, "oA", Status::NoOption, "note 0 unreadable 2\nnone\n"),
+        // Its `issuerAuth` is an empty list.
+        (
+            name,
+            "oWppc3N1ZXJBdXRogA",
+            Status::NoOption,
+            "note 0 unreadable 3\nnone\n",
+        ),
     ] {
         let query = query_for(alloc, path)?;
         let mut store = store_with(alloc, "m", credential.as_bytes())?;
@@ -187,7 +194,7 @@ fn wallets(rt: HostRuntime) -> Result<(), Fail> {
     }
     let some = b"dc+sd-jwt x\ndc+sd-jwt c\ndc+sd-jwt x".as_slice();
     let found = "note 0 unreadable 1\nmatch 1\nnote 2 unreadable 1\nend\n";
-    let rows: [(&str, &[u8], Status, &str); 12] = [
+    let rows: [(&str, &[u8], Status, &str); 16] = [
         (query.as_str(), some, Status::Done, found),
         (&query, b"", Status::NoOption, "none\n"),
         (
@@ -207,6 +214,20 @@ fn wallets(rt: HostRuntime) -> Result<(), Fail> {
             b"dc+sd-jwt c\n\xff",
             Status::FileRefused,
             "file refused w 1\n",
+        ),
+        (&query, b"\n", Status::FileRefused, "file refused w 1\n"),
+        (
+            &query,
+            b"dc+sd-jwtc",
+            Status::FileRefused,
+            "file refused w 1\n",
+        ),
+        (&query, b"dc+sd-jwt  c", Status::ReadFault, "read fault\n"),
+        (
+            &query,
+            b"dc+sd-jwt c\r\n",
+            Status::ReadFault,
+            "read fault\n",
         ),
         (&query, &over, Status::FileRefused, "file refused w 65\n"),
         (&query, b"dc+sd-jwt d", Status::ReadFault, "read fault\n"),

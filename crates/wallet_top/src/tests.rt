@@ -68,9 +68,13 @@ fn runs(rt: HostRuntime) -> Result<(), Fail> {
     let two_queries = r#"{"credentials":[{"id":"a","format":"f"},{"id":"b","format":"f"}]}"#;
     let full = lines(alloc, 1024)?;
     let too_many = lines(alloc, 1025)?;
-    let files: [(&str, &[u8], Status, &str); 15] = [
+    let no_claims = r#"{"credentials":[{"id":"a","format":"f"}]}"#;
+    let files: [(&str, &[u8], Status, &str); 18] = [
         (QUERY, TREES.as_bytes(), Status::Done, MATCHES),
         (QUERY, b"", Status::NoOption, "none\n"),
+        (no_claims, b"0", Status::Done, "match 0\nend\n"),
+        (QUERY, b"0\r\n", Status::NoOption, "none\n"),
+        ("", b"0", Status::FileRefused, "file refused q 1\n"),
         (
             QUERY,
             b"{}\n{\"given_name\":1}",
@@ -156,6 +160,15 @@ fn faults_and_limits(rt: HostRuntime) -> Result<(), Fail> {
         assert_eq!(rt; got, status);
         assert_eq!(rt; bytes.as_slice(), text.as_bytes());
     }
+    let mut store = stored(alloc, QUERY, TREES.as_bytes())?;
+    store.put("q", b"\"\xff\"")?;
+    let (got, bytes) = tried(alloc, &mut store, 99)?;
+    assert_eq!(rt; got, Status::FileRefused);
+    assert_eq!(rt; bytes.as_slice(), b"file refused q 1\n".as_slice());
+    store.put("q", &padded(alloc, 1_048_577)?)?;
+    let (got, bytes) = tried(alloc, &mut store, 99)?;
+    assert_eq!(rt; got, Status::TooLong);
+    assert_eq!(rt; bytes.as_slice(), b"too long q\n".as_slice());
     let mut empty = MemoryStore::new(alloc);
     assert_eq!(rt; tried(alloc, &mut empty, 99)?.0, Status::ReadFault);
     let mut out = MemorySink::new(alloc, 99)?;

@@ -66,8 +66,8 @@ returns-in_err-value-clause-asked g c =
     let query = c.args.query.now in
     let wallet = c.args.wallet.now in
     rw (p.1, p.2) (each_told _ _ (λ files refuses. stops_asking_at (g.S.Store.faults c.args.store.now) _ _ _ query (file_refusal file_limit query bad_query (files query))
-        (wallet ∷ unless_ended (file_refusal file_limit wallet bad_wallet (files wallet)) (reached (credential_steps files (entries_in (files wallet)) ++ query_looks (asked_in (files query)))))
-        c.in_err-value.field-0.0 refuses c.in_err-value.ensures.asked) _ c.in_err-value.ensures.refusal)
+    (wallet ∷ unless_ended (file_refusal file_limit wallet bad_wallet (files wallet)) (reached (credential_steps files (entries_in (files wallet)) ++ query_looks (asked_in (files query)))))
+    c.in_err-value.field-0.0 refuses c.in_err-value.ensures.asked) _ c.in_err-value.ensures.refusal)
 
 pub returns-in_err-entries-clause-asked : goal.returns-in_err-entries-clause-asked
 returns-in_err-entries-clause-asked g c =
@@ -75,9 +75,9 @@ returns-in_err-entries-clause-asked g c =
     let query = c.args.query.now in
     let wallet = c.args.wallet.now in
     rw (p.1, p.2) (both_told _ _ _ (λ files passed refuses. stops_at_two (g.S.Store.faults c.args.store.now) _ _ _ _ _ query (file_refusal file_limit query bad_query (files query))
-        wallet (file_refusal file_limit wallet bad_wallet (files wallet)) (reached (credential_steps files (entries_in (files wallet)) ++ query_looks (asked_in (files query))))
-        c.in_err-entries.field-0.0 c.in_ok-value.ensures.later passed c.in_ok-value.ensures.asked refuses c.in_err-entries.ensures.asked)
-        _ c.in_ok-value.ensures.passed (rw c.in_ok-value.ensures.same at c.in_err-entries.ensures.refusal))
+    wallet (file_refusal file_limit wallet bad_wallet (files wallet)) (reached (credential_steps files (entries_in (files wallet)) ++ query_looks (asked_in (files query))))
+    c.in_err-entries.field-0.0 c.in_ok-value.ensures.later passed c.in_ok-value.ensures.asked refuses c.in_err-entries.ensures.asked)
+    _ c.in_ok-value.ensures.passed (rw c.in_ok-value.ensures.same at c.in_err-entries.ensures.refusal))
 
 pub returns-in_err-asked-clause-asked : goal.returns-in_err-asked-clause-asked
 returns-in_err-asked-clause-asked g c =
@@ -85,9 +85,9 @@ returns-in_err-asked-clause-asked g c =
     let query = c.args.query.now in
     let wallet = c.args.wallet.now in
     rw (p.1, p.2) (each_told _ _ (λ files passed. stops_at_two (g.S.Store.faults c.args.store.now) (g.S.Store.faults c.read_query.new.store) (g.S.Store.faults c.read_wallet.new.store) _ _ _ query (file_refusal file_limit query bad_query (files query))
-        wallet (file_refusal file_limit wallet bad_wallet (files wallet)) (reached (credential_steps files (entries_in (files wallet)) ++ query_looks (asked_in (files query))))
-        NoMemory c.in_ok-value.ensures.later passed c.in_ok-value.ensures.asked tt (front_of_all _ _ _ c.in_ok-entries.ensures.asked))
-        _ c.in_ok-value.ensures.passed)
+    wallet (file_refusal file_limit wallet bad_wallet (files wallet)) (reached (credential_steps files (entries_in (files wallet)) ++ query_looks (asked_in (files query))))
+    NoMemory c.in_ok-value.ensures.later passed c.in_ok-value.ensures.asked tt (front_of_all _ _ _ c.in_ok-entries.ensures.asked))
+    _ c.in_ok-value.ensures.passed)
 
 pub returns-in_err-listing-clause-asked : goal.returns-in_err-listing-clause-asked
 returns-in_err-listing-clause-asked g c =
@@ -99,10 +99,10 @@ returns-in_err-listing-clause-asked g c =
     let second = c.in_ok-entries.ensures.same ∙ first in
     let are_read = are_read_told query wallet (g.S.Store.files c.args.store.now) es c.in_ok-value.ensures.passed (rw first at c.in_ok-entries.ensures.passed) (rw first at c.in_ok-entries.ensures.entries) in
     rw (p.1, p.2) (both_told _ _ _ (λ files are_read stops. listing_stops_asking query wallet files (g.S.Store.faults c.args.store.now) (g.S.Store.faults c.read_wallet.new.store) (g.S.Store.faults c.list_entries.new.store)
-        (g.S.Store.asked c.args.store.now) (g.S.Store.asked c.read_query.new.store) (g.S.Store.asked c.read_wallet.new.store) (g.S.Store.asked c.list_entries.new.store) es c.in_err-listing.field-0.0
-        (λ name. omega (arith, c.in_ok-value.ensures.later name, c.in_ok-entries.ensures.later name))
-        are_read c.in_ok-value.ensures.asked c.in_ok-entries.ensures.asked stops)
-        _ are_read (rw (second, c.deref.ensures.value) at c.in_err-listing.ensures.asked))
+    (g.S.Store.asked c.args.store.now) (g.S.Store.asked c.read_query.new.store) (g.S.Store.asked c.read_wallet.new.store) (g.S.Store.asked c.list_entries.new.store) es c.in_err-listing.field-0.0
+    (λ name. omega (arith, c.in_ok-value.ensures.later name, c.in_ok-entries.ensures.later name))
+    are_read c.in_ok-value.ensures.asked c.in_ok-entries.ensures.asked stops)
+    _ are_read (rw (second, c.deref.ensures.value) at c.in_err-listing.ensures.asked))
 
 pub returns-in_err-listing_reply-clause-asked : goal.returns-in_err-listing_reply-clause-asked
 returns-in_err-listing_reply-clause-asked g c =
@@ -114,10 +114,10 @@ returns-in_err-listing_reply-clause-asked g c =
     let second = c.in_ok-entries.ensures.same ∙ first in
     let are_read = are_read_told query wallet (g.S.Store.files c.args.store.now) es c.in_ok-value.ensures.passed (rw first at c.in_ok-entries.ensures.passed) (rw first at c.in_ok-entries.ensures.entries) in
     rw (p.1, p.2) (both_told _ _ _ (λ files are_read all. listing_stops_asking query wallet files (g.S.Store.faults c.args.store.now) (g.S.Store.faults c.read_wallet.new.store) (g.S.Store.faults c.list_entries.new.store)
-        (g.S.Store.asked c.args.store.now) (g.S.Store.asked c.read_query.new.store) (g.S.Store.asked c.read_wallet.new.store) (g.S.Store.asked c.list_entries.new.store) es NoMemory
-        (λ name. omega (arith, c.in_ok-value.ensures.later name, c.in_ok-entries.ensures.later name))
-        are_read c.in_ok-value.ensures.asked c.in_ok-entries.ensures.asked (front_of_all _ _ _ all))
-        _ are_read (rw (second, c.deref.ensures.value) at c.in_ok-listing.ensures.asked))
+    (g.S.Store.asked c.args.store.now) (g.S.Store.asked c.read_query.new.store) (g.S.Store.asked c.read_wallet.new.store) (g.S.Store.asked c.list_entries.new.store) es NoMemory
+    (λ name. omega (arith, c.in_ok-value.ensures.later name, c.in_ok-entries.ensures.later name))
+    are_read c.in_ok-value.ensures.asked c.in_ok-entries.ensures.asked (front_of_all _ _ _ all))
+    _ are_read (rw (second, c.deref.ensures.value) at c.in_ok-listing.ensures.asked))
 
 pub returns-in_err-replied-clause-asked : goal.returns-in_err-replied-clause-asked
 returns-in_err-replied-clause-asked g c =
@@ -129,10 +129,10 @@ returns-in_err-replied-clause-asked g c =
     let second = c.in_ok-entries.ensures.same ∙ first in
     let are_read = are_read_told query wallet (g.S.Store.files c.args.store.now) es c.in_ok-value.ensures.passed (rw first at c.in_ok-entries.ensures.passed) (rw first at c.in_ok-entries.ensures.entries) in
     rw (p.1, p.2) (both_told _ _ _ (λ files are_read all. listing_stops_asking query wallet files (g.S.Store.faults c.args.store.now) (g.S.Store.faults c.read_wallet.new.store) (g.S.Store.faults c.list_entries.new.store)
-        (g.S.Store.asked c.args.store.now) (g.S.Store.asked c.read_query.new.store) (g.S.Store.asked c.read_wallet.new.store) (g.S.Store.asked c.list_entries.new.store) es NoMemory
-        (λ name. omega (arith, c.in_ok-value.ensures.later name, c.in_ok-entries.ensures.later name))
-        are_read c.in_ok-value.ensures.asked c.in_ok-entries.ensures.asked (front_of_all _ _ _ all))
-        _ are_read (rw (second, c.deref.ensures.value) at c.in_ok-listing.ensures.asked))
+    (g.S.Store.asked c.args.store.now) (g.S.Store.asked c.read_query.new.store) (g.S.Store.asked c.read_wallet.new.store) (g.S.Store.asked c.list_entries.new.store) es NoMemory
+    (λ name. omega (arith, c.in_ok-value.ensures.later name, c.in_ok-entries.ensures.later name))
+    are_read c.in_ok-value.ensures.asked c.in_ok-entries.ensures.asked (front_of_all _ _ _ all))
+    _ are_read (rw (second, c.deref.ensures.value) at c.in_ok-listing.ensures.asked))
 
 pub returns-clause-asked : goal.returns-clause-asked
 returns-clause-asked g c =

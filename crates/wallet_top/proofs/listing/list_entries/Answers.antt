@@ -58,15 +58,15 @@ returns-in_err-finding-clause-asked g c =
     let p = err_from_is_err_and c.from_residual.result c.from_residual.ensures.1 in
     let told = c.loop-entry.invariant.same in
     rw (p.1, p.2) (both_told _ _ _ (λ files so_far refuses. stops_at_entry files (g.S.Store.faults c.args.store.now) _ _ _ _ _ c.args.entries.now c.loop-entry.entry-index c.entry-item.result
-        c.in_err-finding.field-0.0 c.loop-entry.invariant.later c.loop-entry-test.true c.entry-item.is refuses c.in_err-finding.ensures.asked so_far)
-        _ c.loop-entry.invariant.asked (rw told at c.in_err-finding.ensures.refusal))
+    c.in_err-finding.field-0.0 c.loop-entry.invariant.later c.loop-entry-test.true c.entry-item.is refuses c.in_err-finding.ensures.asked so_far)
+    _ c.loop-entry.invariant.asked (rw told at c.in_err-finding.ensures.refusal))
 
 pub returns-in_err-add_finding-clause-asked : goal.returns-in_err-add_finding-clause-asked
 returns-in_err-add_finding-clause-asked g c =
     let p = err_from_is_err_and c.from_residual-in_err-add_finding.result c.from_residual-in_err-add_finding.ensures.1 in
     rw (p.1, p.2) (each_told _ _ (λ files so_far. stops_at_entry files (g.S.Store.faults c.args.store.now) (g.S.Store.faults c.loop-entry.store) (g.S.Store.faults c.find.new.store) _ _ _ c.args.entries.now c.loop-entry.entry-index c.entry-item.result
-        NoMemory c.loop-entry.invariant.later c.loop-entry-test.true c.entry-item.is tt (front_of_all _ _ _ c.in_ok-finding.ensures.asked) so_far)
-        _ c.loop-entry.invariant.asked)
+    NoMemory c.loop-entry.invariant.later c.loop-entry-test.true c.entry-item.is tt (front_of_all _ _ _ c.in_ok-finding.ensures.asked) so_far)
+    _ c.loop-entry.invariant.asked)
 
 pub returns-clause-asked : goal.returns-clause-asked
 returns-clause-asked g c =

@@ -28,8 +28,8 @@ returns-in_err-value-clause-asked g c =
     let query = c.args.query.now in
     let trees = c.args.trees.now in
     rw (p.1, p.2) (each_told _ _ (λ files refuses. stops_asking_at (g.S.Store.faults c.args.store.now) _ _ _ query (file_refusal file_limit query bad_query (files query))
-        (trees ∷ unless_ended (file_refusal file_limit trees bad_trees (files trees)) (reached (query_looks (asked_in (files query)))))
-        c.in_err-value.field-0.0 refuses c.in_err-value.ensures.asked) _ c.in_err-value.ensures.refusal)
+    (trees ∷ unless_ended (file_refusal file_limit trees bad_trees (files trees)) (reached (query_looks (asked_in (files query)))))
+    c.in_err-value.field-0.0 refuses c.in_err-value.ensures.asked) _ c.in_err-value.ensures.refusal)
 
 pub returns-in_err-bytes-clause-asked : goal.returns-in_err-bytes-clause-asked
 returns-in_err-bytes-clause-asked g c =
@@ -37,10 +37,10 @@ returns-in_err-bytes-clause-asked g c =
     let query = c.args.query.now in
     let trees = c.args.trees.now in
     rw (p.1, p.2) (both_told _ _ _ (λ files passed refuses. stops_at_two (g.S.Store.faults c.args.store.now) _ _ _ _ _ query (file_refusal file_limit query bad_query (files query))
-        trees (file_refusal file_limit trees bad_trees (files trees)) (reached (query_looks (asked_in (files query))))
-        c.in_err-bytes.field-0.0 c.in_ok-value.ensures.later passed c.in_ok-value.ensures.asked
-        (refuses_whole file_limit trees bad_trees (files trees) c.in_err-bytes.field-0.0 refuses) c.in_err-bytes.ensures.asked)
-        _ c.in_ok-value.ensures.passed (rw c.in_ok-value.ensures.same at c.in_err-bytes.ensures.refusal))
+    trees (file_refusal file_limit trees bad_trees (files trees)) (reached (query_looks (asked_in (files query))))
+    c.in_err-bytes.field-0.0 c.in_ok-value.ensures.later passed c.in_ok-value.ensures.asked
+    (refuses_whole file_limit trees bad_trees (files trees) c.in_err-bytes.field-0.0 refuses) c.in_err-bytes.ensures.asked)
+    _ c.in_ok-value.ensures.passed (rw c.in_ok-value.ensures.same at c.in_err-bytes.ensures.refusal))
 
 pub returns-in_err-judge-clause-asked : goal.returns-in_err-judge-clause-asked
 returns-in_err-judge-clause-asked g c =
@@ -48,9 +48,9 @@ returns-in_err-judge-clause-asked g c =
     let query = c.args.query.now in
     let trees = c.args.trees.now in
     rw (p.1, p.2) (each_told _ _ (λ files passed. stops_at_two (g.S.Store.faults c.args.store.now) (g.S.Store.faults c.read_query.new.store) (g.S.Store.faults c.read_file.new.store) _ _ _ query (file_refusal file_limit query bad_query (files query))
-        trees (file_refusal file_limit trees bad_trees (files trees)) (reached (query_looks (asked_in (files query))))
-        NoMemory c.in_ok-value.ensures.later passed c.in_ok-value.ensures.asked tt (front_of_all _ _ _ c.in_ok-bytes.ensures.asked))
-        _ c.in_ok-value.ensures.passed)
+    trees (file_refusal file_limit trees bad_trees (files trees)) (reached (query_looks (asked_in (files query))))
+    NoMemory c.in_ok-value.ensures.later passed c.in_ok-value.ensures.asked tt (front_of_all _ _ _ c.in_ok-bytes.ensures.asked))
+    _ c.in_ok-value.ensures.passed)
 
 pub returns-clause-asked : goal.returns-clause-asked
 returns-clause-asked g c =

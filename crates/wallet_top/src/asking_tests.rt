@@ -1,0 +1,110 @@
+// Which files runs ask for, and in which order.
+use crate::run;
+use crate::tests::words;
+use outside::{MemorySink, MemoryStore, Status};
+use std::alloc::Global;
+use std::test::Fail;
+
+const QUERY: &str =
+    r#"{"credentials":[{"id":"a","format":"dc+sd-jwt","claims":[{"path":["given_name"]}]}]}"#;
+
+// A store with a query, a query that breaks a rule, trees, wallets and two files of which neither is a credential. One wallet
+// names a file that is not there, and one a file that is too long.
+fn stored(alloc: Global) -> Result<MemoryStore, Fail> {
+    let mut long = Vec::new(alloc);
+    for _ in 0..262_145 {
+        long.push(b'.')?;
+    }
+    let mut store = MemoryStore::new(alloc);
+    store.put("q", QUERY.as_bytes())?;
+    store.put("broken", b"{}")?;
+    store.put("t", b"{}\n")?;
+    store.put("x", b"x")?;
+    store.put("y", b"y")?;
+    store.put("long", &long)?;
+    store.put("w", b"dc+sd-jwt x\nmso_mdoc y\ndc+sd-jwt x")?;
+    store.put("gap", b"dc+sd-jwt x\ndc+sd-jwt none\ndc+sd-jwt y")?;
+    store.put("past", b"dc+sd-jwt long\ndc+sd-jwt y")?;
+    store.put("empty", b"")?;
+    Ok(store)
+}
+
+// Runs these words over the store; the names that are asked for, a blank after each.
+fn asked(alloc: Global, store: &mut MemoryStore, texts: &[&str]) -> Result<(Status, String), Fail> {
+    let words = words(alloc, texts)?;
+    let mut out = MemorySink::new(alloc, 999)?;
+    let status = run(alloc, &words, store, &mut out);
+    let mut names = String::new(alloc);
+    for name in store.asked() {
+        names.push_str(name.as_str())?;
+        names.push(' ')?;
+    }
+    Ok((status, names))
+}
+
+#[test]
+fn files_in_their_order(rt: HostRuntime) -> Result<(), Fail> {
+    let alloc = rt.alloc();
+    for (word, query, other, status, names) in [
+        ("try", "q", "t", Status::NoOption, "q t "),
+        ("try", "q", "q", Status::NoOption, "q q "),
+        ("try", "none", "t", Status::ReadFault, "none "),
+        ("try", "long", "t", Status::FileRefused, "long "),
+        ("try", "x", "t", Status::FileRefused, "x "),
+        ("try", "q", "none", Status::ReadFault, "q none "),
+        ("try", "q", "x", Status::FileRefused, "q x "),
+        ("try", "broken", "t", Status::RequestRefused, "broken t "),
+        ("list", "q", "w", Status::NoOption, "q w x y x "),
+        ("list", "q", "empty", Status::NoOption, "q empty "),
+        ("list", "none", "w", Status::ReadFault, "none "),
+        ("list", "x", "w", Status::FileRefused, "x "),
+        ("list", "q", "none", Status::ReadFault, "q none "),
+        ("list", "q", "t", Status::FileRefused, "q t "),
+        ("list", "q", "gap", Status::ReadFault, "q gap x none "),
+        ("list", "q", "past", Status::TooLong, "q past long "),
+        (
+            "list",
+            "broken",
+            "w",
+            Status::RequestRefused,
+            "broken w x y x ",
+        ),
+        ("Try", "q", "t", Status::Usage, ""),
+        ("lists", "q", "w", Status::Usage, ""),
+    ] {
+        let mut store = stored(alloc)?;
+        let got = asked(alloc, &mut store, &[word, query, other])?;
+        assert_eq!(rt; got.0, status, "{word} {query} {other}");
+        assert_eq!(rt; got.1.as_str(), names);
+    }
+    Ok(())
+}
+
+#[test]
+fn up_to_a_fault(rt: HostRuntime) -> Result<(), Fail> {
+    let alloc = rt.alloc();
+    for (call, status, names) in [
+        (0, Status::ReadFault, "q "),
+        (1, Status::ReadFault, "q w "),
+        (2, Status::ReadFault, "q w x "),
+        (4, Status::ReadFault, "q w x y x "),
+        (5, Status::NoOption, "q w x y x "),
+    ] {
+        let mut store = stored(alloc)?;
+        store.fail_at(call)?;
+        let got = asked(alloc, &mut store, &["list", "q", "w"])?;
+        assert_eq!(rt; got.0, status);
+        assert_eq!(rt; got.1.as_str(), names);
+    }
+    let mut store = stored(alloc)?;
+    let none: [&str; 0] = [];
+    assert_eq!(rt; asked(alloc, &mut store, &none)?.0, Status::Usage);
+    assert_eq!(rt; asked(alloc, &mut store, &["try"])?.0, Status::Usage);
+    assert_eq!(rt; asked(alloc, &mut store, &["list", "q"])?.0, Status::Usage);
+    assert_eq!(rt;
+        asked(alloc, &mut store, &["try", "q", "t", ""])?.0,
+        Status::Usage
+    );
+    assert!(rt; store.asked().is_empty());
+    Ok(())
+}
