@@ -58,14 +58,6 @@ mdoc_reading asked None credential = option_map_or (λ c. tree_finding asked c.t
 abbrev pub bytes_finding : Option Credential → List ℕ → Finding
 bytes_finding asked bytes = mdoc_reading asked (md.refusal_of bytes) (mdoc.credential_in bytes)
 
--- a mobile document, by the base64url of its bytes
-abbrev pub mdoc_finding : Option Credential → List ℕ → Finding
-mdoc_finding asked text = option_map_or (bytes_finding asked) (url64_bytes text) (Unreadable 0)
-
-abbrev pub text_finding : Format → Option Credential → List ℕ → Finding
-text_finding SdJwt asked text = sd_finding asked text
-text_finding Mdoc asked text = mdoc_finding asked text
-
 -- ---- a credential file
 
 -- how many bytes it may have
@@ -78,9 +70,14 @@ without_feed [] = []
 without_feed (byte ∷ []) = if byte == 10 then [] else byte ∷ []
 without_feed (byte ∷ next ∷ bytes) = byte ∷ without_feed (next ∷ bytes)
 
--- the text may end in one line feed
+-- the bytes of which a file's text is the base64url
+abbrev pub document_in : List ℕ → Option (List ℕ)
+document_in bytes = if is_utf8 bytes then url64_bytes (without_feed bytes) else None
+
+-- The text may end in one line feed.
 abbrev pub file_finding : Format → Option Credential → List ℕ → Finding
-file_finding format asked bytes = if is_utf8 bytes then text_finding format asked (without_feed bytes) else Unreadable 0
+file_finding SdJwt asked bytes = if is_utf8 bytes then sd_finding asked (without_feed bytes) else Unreadable 0
+file_finding Mdoc asked bytes = option_map_or (bytes_finding asked) (document_in bytes) (Unreadable 0)
 
 -- an entry of the wallet (its file is there, or the command ends before)
 abbrev pub entry_finding : Option Credential → Files → Entry → Finding

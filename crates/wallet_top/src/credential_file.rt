@@ -1,8 +1,8 @@
 // A credential file against a credential query.
-ghost use Rattle.std.specs.Prelude.{◌≡◌, IfOk};
+ghost use Rattle.std.specs.Prelude.{◌≡◌, IfOk, option_map};
 ghost use Rattle.std.specs.Option.{option_copied};
 ghost use Rattle.claim_tree.specs.Tree.{Tree};
-ghost use Rattle.wallet_top.specs.Listing.{tree_finding, sd_finding, mdoc_finding, bytes_finding, without_feed, file_finding};
+ghost use Rattle.wallet_top.specs.Listing.{tree_finding, sd_finding, bytes_finding, without_feed, document_in, file_finding};
 
 use crate::finding::Finding;
 use crate::matching::has_asked;
@@ -19,16 +19,42 @@ pub fn judge_file(
     alloc: Global,
     format: Format,
     asked: Option<&CredentialQuery>,
+    bytes: Vec<u8>,
+) -> Result<Finding, AllocError>
+    ensures { IfOk result (λ finding. finding ≡ file_finding format (option_copied asked.entry) bytes.entry.items) }
+{
+    match format {
+        Format::SdJwt => judge_sd_jwt_file(alloc, asked, &bytes),
+        Format::Mdoc => judge_mdoc_file(alloc, asked, bytes),
+    }
+}
+
+fn judge_sd_jwt_file(
+    alloc: Global,
+    asked: Option<&CredentialQuery>,
     bytes: &[u8],
 ) -> Result<Finding, AllocError>
-    ensures { IfOk result (λ finding. finding ≡ file_finding format (option_copied asked.entry) bytes.now) }
+    ensures { IfOk result (λ finding. finding ≡ file_finding Format.SdJwt (option_copied asked.entry) bytes.now) }
 {
-    let Some(text) = text_of(bytes) else {
-        return Ok(Finding::Unreadable(0));
-    };
-    match format {
-        Format::SdJwt => judge_sd_jwt(alloc, asked, without_feed(text)),
-        Format::Mdoc => judge_mdoc(alloc, asked, without_feed(text)),
+    match text_of(bytes) {
+        Some(text) => judge_sd_jwt(alloc, asked, without_feed(text)),
+        None => Ok(Finding::Unreadable(0)),
+    }
+}
+
+// The bytes of the file are let go before what they encode is read.
+fn judge_mdoc_file(
+    alloc: Global,
+    asked: Option<&CredentialQuery>,
+    bytes: Vec<u8>,
+) -> Result<Finding, AllocError>
+    ensures { IfOk result (λ finding. finding ≡ file_finding Format.Mdoc (option_copied asked.entry) bytes.entry.items) }
+{
+    let decoded = decode(alloc, &bytes)?;
+    drop(bytes);
+    match decoded {
+        Some(document) => judge_document(alloc, asked, &document),
+        None => Ok(Finding::Unreadable(0)),
     }
 }
 
@@ -57,21 +83,21 @@ fn judge_sd_jwt(
     }
 }
 
-fn judge_mdoc(
-    alloc: Global,
-    asked: Option<&CredentialQuery>,
-    text: &str,
-) -> Result<Finding, AllocError>
-    ensures { IfOk result (λ finding. finding ≡ mdoc_finding (option_copied asked.entry) text.now) }
+// The bytes that a file's text is the base64url of.
+fn decode(alloc: Global, bytes: &[u8]) -> Result<Option<Vec<u8>>, AllocError>
+    ensures { IfOk result (λ document. option_map (λ v. v.items) document ≡ document_in bytes.now) }
 {
-    match from_url64(alloc, text) {
-        Ok(bytes) => judge_bytes(alloc, asked, &bytes),
-        Err(base_forms::Error::Refused(_)) => Ok(Finding::Unreadable(0)),
+    let Some(text) = text_of(bytes) else {
+        return Ok(None);
+    };
+    match from_url64(alloc, without_feed(text)) {
+        Ok(document) => Ok(Some(document)),
+        Err(base_forms::Error::Refused(_)) => Ok(None),
         Err(base_forms::Error::NoMemory) => Err(AllocError),
     }
 }
 
-fn judge_bytes(
+fn judge_document(
     alloc: Global,
     asked: Option<&CredentialQuery>,
     bytes: &[u8],

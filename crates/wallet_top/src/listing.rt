@@ -121,7 +121,7 @@ fn find<S: Store>(
         IsReadCause (S.faults store.old (meant entry.now).file) (S.faults store.new (meant entry.now).file) stop) }
 {
     let bytes = read_file(alloc, store, entry.file.as_str(), CREDENTIAL_LIMIT)?;
-    Ok(judge_file(alloc, entry.format, asked, &bytes)?)
+    Ok(judge_file(alloc, entry.format, asked, bytes)?)
 }
 
 // Adds the line of a credential with this number.
