@@ -14,9 +14,6 @@ use std::fs::File;
 use std::io::{self, Print, Read};
 use std::rt::Files;
 
-/// How many bytes the room for a file has at first, less one.
-const MOST_AT_FIRST: usize = 16_384;
-
 /// The files of the system.
 #[derive(Drop)]
 pub struct FileStore<R: Files + Drop> {
@@ -67,8 +64,7 @@ pub(crate) fn read_within<R: Read + Drop>(
     ensures within { IfOk result (λ found. IfSome found (λ bytes. length bytes.items ≤ limit)) }
     ensures all { IfSome (R.remaining reader) (λ left. IfOk result (λ found. option_map (λ bytes. bytes.items) found ≡ within limit left)) }
 {
-    // Doubled six times, it holds a file of the greatest length and shows its end, with no room to spare.
-    let mut bytes = Vec::with_capacity(alloc, (limit / 64).min(MOST_AT_FIRST) + 1)?;
+    let mut bytes = Vec::new(alloc);
     let most = (limit as u64).saturating_add(1);
     reader.take(most).read_to_end(&mut bytes)?;
     if bytes.len() > limit {
