@@ -21,7 +21,7 @@ pub fn judge_file(
     asked: Option<&CredentialQuery>,
     bytes: Vec<u8>,
 ) -> Result<Finding, AllocError>
-    ensures { IfOk result (λ finding. finding ≡ file_finding format (option_copied asked.entry) bytes.entry.items) }
+    ensures { IfOk result (λ finding. finding ≡ file_finding format (option_copied asked.entry) bytes.items) }
 {
     match format {
         Format::SdJwt => judge_sd_jwt_file(alloc, asked, &bytes),
@@ -48,7 +48,7 @@ fn judge_mdoc_file(
     asked: Option<&CredentialQuery>,
     bytes: Vec<u8>,
 ) -> Result<Finding, AllocError>
-    ensures { IfOk result (λ finding. finding ≡ file_finding Format.Mdoc (option_copied asked.entry) bytes.entry.items) }
+    ensures { IfOk result (λ finding. finding ≡ file_finding Format.Mdoc (option_copied asked.entry) bytes.items) }
 {
     let decoded = decode(alloc, &bytes)?;
     drop(bytes);
