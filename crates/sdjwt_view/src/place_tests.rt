@@ -1,6 +1,6 @@
 // Credentials whose disclosures lie anywhere.
 use super::{Error, SdCredential};
-use base_forms::to_url64;
+use base_forms::{HashName, to_url64};
 use claim_tree::{ClaimNode, ClaimView};
 use std::alloc::Global;
 use std::test::Fail;
@@ -144,6 +144,38 @@ fn malformed_disclosures(rt: HostRuntime) -> Result<(), Fail> {
         (r#"["s",{"...":"d"}]"#, 8),
     ] {
         let text = issued(alloc, r#"{"vct":"t"}"#, &[disclosure])?;
+        assert!(rt; is_refused(alloc, text.as_str(), rule), "{disclosure}");
+    }
+    Ok(())
+}
+
+// A payload that begins so, with the digest of this disclosure in its own `_sd`.
+fn with_digest(alloc: Global, start: &str, disclosure: &str) -> Result<String, Fail> {
+    let text = to_url64(alloc, disclosure.as_bytes())?;
+    let digest = to_url64(alloc, HashName::Sha256.digest(text.as_bytes()).bytes())?;
+    Ok(format!(in alloc; "{start}\"_sd\":[\"{digest}\"]}}")?)
+}
+
+// Members that no disclosure may bring to the payload, and like ones that it may.
+#[test]
+fn kept_for_the_payload(rt: HostRuntime) -> Result<(), Fail> {
+    let alloc = rt.alloc();
+    for (disclosure, is_kept) in [
+        (r#"["s","iss","i"]"#, true),
+        (r#"["s","nbf",1]"#, true),
+        (r#"["s","exp",1]"#, true),
+        (r#"["s","cnf",{}]"#, true),
+        (r#"["s","vct","v"]"#, true),
+        (r#"["s","status",{}]"#, true),
+        (r#"["s","_sd_alg","sha-256"]"#, true),
+        (r#"["s","sub","x"]"#, false),
+        (r#"["s","iat",1]"#, false),
+        (r#"["s","EXP",1]"#, false),
+        (r#"["s","",1]"#, false),
+    ] {
+        let payload = with_digest(alloc, "{\"vct2\":1,", disclosure)?;
+        let text = issued(alloc, payload.as_str(), &[disclosure])?;
+        let rule = if is_kept { 13 } else { 15 };
         assert!(rt; is_refused(alloc, text.as_str(), rule), "{disclosure}");
     }
     Ok(())

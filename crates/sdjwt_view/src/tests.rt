@@ -1,5 +1,6 @@
 // Whole credentials.
 use super::{Error, SdCredential};
+use base_forms::HashName;
 use claim_tree::{ClaimNode, ClaimView};
 use std::test::Fail;
 
@@ -106,6 +107,13 @@ fn read(rt: HostRuntime) -> Result<(), Fail> {
     assert!(rt; name.text() == Some("M\u{f6}bius"));
     assert!(rt; one.root().member("_sd").is_none());
     assert_eq!(rt; one.text(), ONE);
+
+    let facts = one.facts();
+    assert_eq!(rt; facts.first, 0);
+    assert!(rt; facts.past.is_none());
+    assert!(rt; facts.holder.is_none());
+    assert!(rt; one.hash() == HashName::Sha256);
+    assert!(rt; one.jws().typ() == Some("dc+sd-jwt"));
 
     let full = SdCredential::read(alloc, FULL)?;
     let root = full.root();
