@@ -1,5 +1,6 @@
--- Which rule of reading one item (RFC 8949) bytes break, the least of them. 1 the bytes end within the item, 2 a reserved
--- head, 3 a string in chunks, 4 a text that is not UTF-8, 5 a doubled key, 6 nested too deep, 7 bytes are left over.
+-- Which rule of reading one item (RFC 8949) bytes break. 1 the bytes end within the item, 2 a reserved head, 3 a string in chunks,
+-- 4 a text that is not UTF-8, 5 a doubled key, 6 nested too deep, 7 bytes are left over. Of 1, 2, 3 and 6 it is the one that the first
+-- head breaks that breaks any of them; where no head does, it is the least of 4, 5 and 7.
 use Rattle.std.specs.Prelude.{ℕ, zero, suc, List, length, Bool, true, not, ◌&&◌, Option, Some, None, Result, Ok, Err, nat_lt, if◌then◌else◌}
 use Rattle.std.specs.Option.{option_map_or}
 use Rattle.std.specs.List.{list_all}
@@ -51,6 +52,6 @@ abbrev pub rule_after : ℕ → List ℕ → Result (List ℕ) Fault → Option 
 rule_after depth bytes (Err f) = Some (rule_of f)
 rule_after depth bytes (Ok rest) = later_rule depth (before rest bytes) rest
 
--- the rule that bytes break: of several, the least
+-- the rule that bytes break, if they break any
 unfoldable pub broken_rule : ℕ → List ℕ → Option ℕ
 broken_rule depth bytes = rule_after depth bytes (item_at depth bytes)

@@ -21,7 +21,8 @@ impl<T: Drop> From<AllocFailed<T>> for NoMemory {
 /// Why bytes were not read.
 #[derive(Clone, Copy, PartialEq, Eq, Debug, Drop)]
 pub enum Error {
-    /// The least rule that they break, by its number.
+    /// The rule that they break, by its number: of 1, 2, 3 and 6 the one that the first head breaks that breaks any of them, else the
+    /// least of 4, 5 and 7.
     Refused(u8),
     /// Memory was wanting. It may come in place of any other answer.
     NoMemory,

@@ -19,6 +19,3 @@ mod value;
 pub use credential::MdCredential;
 pub use error::{Error, NoMemory};
 pub use node::MdNode;
-
-#[cfg(test)]
-mod tests;

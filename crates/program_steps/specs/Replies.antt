@@ -38,6 +38,13 @@ Blames before after MayAsk (Refused reply) = ⊤
 Blames before after MayAsk (Failed fault) = IsFaultFrom before after MayAsk (line_of fault)
 Blames before after MayAsk NoMemory = ⊤
 
+-- The counts of a store stay as they were, unless a fault ends the call.
+abbrev pub CountsFault : {T : Type 0} → (List ℕ → ℕ) → (List ℕ → ℕ) → Result T Stop → Type 0
+CountsFault before after (Ok value) = after ≡ before
+CountsFault before after (Err (Refused reply)) = after ≡ before
+CountsFault before after (Err (Failed fault)) = ⊤
+CountsFault before after (Err NoMemory) = after ≡ before
+
 -- where a step ends with a reply, it is this refusal
 abbrev pub Refuses : Option Outcome → Stop → Type 0
 Refuses refusal (Refused reply) = refusal ≡ Some (outcome reply)

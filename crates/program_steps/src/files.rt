@@ -3,7 +3,7 @@ ghost use Rattle.std.specs.Prelude.{◌≡◌, ◌≤◌, ◌∷◌, [], ℕ, Li
 ghost use Rattle.program_steps.specs.Asking.{AsksFor};
 ghost use Rattle.program_steps.specs.Outcome.{too_long};
 ghost use Rattle.program_steps.specs.Reading.{within_limit, text_in};
-ghost use Rattle.program_steps.specs.Replies.{Refuses, IsReadCause};
+ghost use Rattle.program_steps.specs.Replies.{CountsFault, Refuses, IsReadCause};
 
 use super::refusals::too_long;
 use super::stop::{Fault, Stop};
@@ -23,6 +23,7 @@ pub fn read_file<S: Store>(
 ) -> Result<Vec<u8>, Stop>
     ensures same { S.files store.new ≡ S.files store.old }
     ensures later { (other : List ℕ) → S.faults store.old other ≤ S.faults store.new other }
+    ensures counts { CountsFault (S.faults store.old) (S.faults store.new) result }
     ensures asked { AsksFor (S.faults store.old) (S.faults store.new) (S.asked store.old) (S.asked store.new) (name.now ∷ []) result }
     ensures within { IfOk result (λ bytes. length bytes.items ≤ limit) }
     ensures file { IfSome (S.files store.old) (λ files. IfOk result (λ bytes. files name.now ≡ Some bytes.items)) }

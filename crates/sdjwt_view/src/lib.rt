@@ -24,8 +24,3 @@ pub use credential::SdCredential;
 pub use error::{Error, NoMemory};
 pub use laws::read_is_relation;
 pub use view::SdNode;
-
-#[cfg(test)]
-mod place_tests;
-#[cfg(test)]
-mod tests;

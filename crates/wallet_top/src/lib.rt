@@ -17,10 +17,3 @@ mod trying;
 mod wallet;
 
 pub use top::run;
-
-#[cfg(test)]
-mod asking_tests;
-#[cfg(test)]
-mod list_tests;
-#[cfg(test)]
-mod tests;

@@ -5,7 +5,7 @@ ghost use Rattle.std.specs.Option.{option_copied};
 ghost use Rattle.program_steps.specs.Asking.{AsksFor};
 ghost use Rattle.program_steps.specs.Plan.{ArePassed, IsFile, reached};
 ghost use Rattle.program_steps.specs.Reading.{within_limit};
-ghost use Rattle.program_steps.specs.Replies.{outcome, Refuses, IsReadCause, StopsWithin, Replies, Blames};
+ghost use Rattle.program_steps.specs.Replies.{outcome, CountsFault, Refuses, IsReadCause, StopsWithin, Replies, Blames};
 ghost use Rattle.wallet_top.specs.Command.{list_credentials, MayAsk, counts};
 ghost use Rattle.wallet_top.specs.Entries.{meant};
 ghost use Rattle.wallet_top.specs.Listing.{credential_limit, entry_finding, findings, finding_line, finding_lines, is_match, list_end, credential_steps, list_plan};
@@ -36,6 +36,7 @@ pub fn list_credentials<S: Store>(
 ) -> Result<Reply, Stop>
     ensures same { S.files store.new ≡ S.files store.old }
     ensures later { (name : List ℕ) → S.faults store.old name ≤ S.faults store.new name }
+    ensures counts { CountsFault (S.faults store.old) (S.faults store.new) result }
     ensures reply { IfSome (S.files store.old) (λ files.
         Replies (counts (S.faults store.old)) (counts (S.faults store.new)) (list_plan query.now wallet.now files) result) }
     ensures asked { IfSome (S.files store.old) (λ files.
@@ -76,6 +77,7 @@ fn list_entries<S: Store>(
 ) -> Result<Listing, Stop>
     ensures same { S.files store.new ≡ S.files store.old }
     ensures later { (name : List ℕ) → S.faults store.old name ≤ S.faults store.new name }
+    ensures counts { CountsFault (S.faults store.old) (S.faults store.new) result }
     ensures passed { IfSome (S.files store.old) (λ files. IfOk result (λ _. ArePassed (credential_steps files (map meant entries.now)))) }
     ensures text { IfSome (S.files store.old) (λ files. IfOk result (λ listing.
         string_bytes listing.text ≡ finding_lines 0 (findings (option_copied asked.entry) files (map meant entries.now)))) }
@@ -110,6 +112,7 @@ fn find<S: Store>(
 ) -> Result<Finding, Stop>
     ensures same { S.files store.new ≡ S.files store.old }
     ensures later { (name : List ℕ) → S.faults store.old name ≤ S.faults store.new name }
+    ensures counts { CountsFault (S.faults store.old) (S.faults store.new) result }
     ensures asked { AsksFor (S.faults store.old) (S.faults store.new) (S.asked store.old) (S.asked store.new) ((meant entry.now).file ∷ []) result }
     ensures passed { IfSome (S.files store.old) (λ files. IfOk result (λ _.
         within_limit credential_limit (meant entry.now).file (files (meant entry.now).file) ≡ None)) }

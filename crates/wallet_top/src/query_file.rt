@@ -5,7 +5,7 @@ ghost use Rattle.serde_json.specs.View.{view};
 ghost use Rattle.json_forms.specs.Text.{json_of};
 ghost use Rattle.program_steps.specs.Asking.{AsksFor};
 ghost use Rattle.program_steps.specs.Plan.{file_refusal};
-ghost use Rattle.program_steps.specs.Replies.{outcome, Refuses, IsReadCause};
+ghost use Rattle.program_steps.specs.Replies.{outcome, CountsFault, Refuses, IsReadCause};
 ghost use Rattle.dcql_query.specs.Meaning.{query_of};
 ghost use Rattle.wallet_top.specs.Asked.{file_limit, bad_query, only};
 ghost use Rattle.wallet_top.specs.Lines.{replied};
@@ -29,6 +29,7 @@ pub const FILE_LIMIT: usize = 1_048_576;
 pub fn read_query<S: Store>(alloc: Global, store: &mut S, name: &str) -> Result<Value, Stop>
     ensures same { S.files store.new ≡ S.files store.old }
     ensures later { (other : List ℕ) → S.faults store.old other ≤ S.faults store.new other }
+    ensures counts { CountsFault (S.faults store.old) (S.faults store.new) result }
     ensures asked { AsksFor (S.faults store.old) (S.faults store.new) (S.asked store.old) (S.asked store.new) (name.now ∷ []) result }
     ensures passed { IfSome (S.files store.old) (λ files. IfOk result (λ _. file_refusal file_limit name.now bad_query (files name.now) ≡ None)) }
     ensures value { IfSome (S.files store.old) (λ files. IfOk result (λ value. option_and_then json_of (files name.now) ≡ Some (view value))) }

@@ -5,7 +5,7 @@ ghost use Rattle.outside.specs.Causes.{Rose};
 ghost use Rattle.program_steps.specs.Outcome.{read_fault};
 ghost use Rattle.program_steps.specs.Asking.{AsksFor, EndsAsking};
 ghost use Rattle.program_steps.specs.Plan.{outcome_of, asked, reached, IsFaultFrom, NoneRose};
-ghost use Rattle.program_steps.specs.Replies.{Replies, Blames};
+ghost use Rattle.program_steps.specs.Replies.{CountsFault, Replies, Blames};
 ghost use Rattle.program_steps.specs.Ends.{Answers};
 ghost use Rattle.wallet_top.specs.Command.{command_of, plan_of, plan_of_command, MayAsk, MayBeAsked, counts};
 ghost use Rattle.wallet_top.specs.Meaning.{meaning};
@@ -51,6 +51,9 @@ pub fn run<S: Store, O: Sink>(alloc: Global, words: &[String], store: &mut S, ou
         (MayBeAsked (command_of (map string_bytes words.now))) read_fault }
     ensures write_fault { result ≡ Status.WriteFault → Rose (O.faults out.old) (O.faults out.new) }
 
+    // No fault of the store is passed over, or taken for want of memory.
+    ensures store_counts { result ≢ Status.ReadFault → result ≢ Status.WriteFault → S.faults store.new ≡ S.faults store.old }
+
     ensures files { S.files store.new ≡ S.files store.old }
     ensures store_later { (name : List ℕ) → S.faults store.old name ≤ S.faults store.new name }
     ensures sink_later { O.faults out.old ≤ O.faults out.new }
@@ -70,6 +73,7 @@ pub fn run<S: Store, O: Sink>(alloc: Global, words: &[String], store: &mut S, ou
 fn perform<S: Store>(alloc: Global, command: Command<'_>, store: &mut S) -> Result<Reply, Stop>
     ensures same { S.files store.new ≡ S.files store.old }
     ensures later { (name : List ℕ) → S.faults store.old name ≤ S.faults store.new name }
+    ensures counts { CountsFault (S.faults store.old) (S.faults store.new) result }
     ensures reply { IfSome (S.files store.old) (λ files.
         Replies (counts (S.faults store.old)) (counts (S.faults store.new)) (plan_of_command (meaning command.entry) files) result) }
     ensures asked { IfSome (S.files store.old) (λ files.

@@ -3,7 +3,7 @@ ghost use Rattle.std.specs.Prelude.{◌≡◌, ◌≤◌, ℕ, List, IfOk, IfErr
 ghost use Rattle.serde_json.specs.View.{view};
 ghost use Rattle.program_steps.specs.Asking.{AsksFor};
 ghost use Rattle.program_steps.specs.Plan.{reached};
-ghost use Rattle.program_steps.specs.Replies.{outcome, Replies, Blames};
+ghost use Rattle.program_steps.specs.Replies.{outcome, CountsFault, Replies, Blames};
 ghost use Rattle.dcql_query.specs.Meaning.{query_of};
 ghost use Rattle.wallet_top.specs.Command.{try_query, MayAsk, counts};
 ghost use Rattle.wallet_top.specs.Lines.{judged, ended};
@@ -31,6 +31,7 @@ pub fn try_query<S: Store>(
 ) -> Result<Reply, Stop>
     ensures same { S.files store.new ≡ S.files store.old }
     ensures later { (name : List ℕ) → S.faults store.old name ≤ S.faults store.new name }
+    ensures counts { CountsFault (S.faults store.old) (S.faults store.new) result }
     ensures reply { IfSome (S.files store.old) (λ files.
         Replies (counts (S.faults store.old)) (counts (S.faults store.new)) (try_plan query.now trees.now files) result) }
     ensures asked { IfSome (S.files store.old) (λ files.

@@ -3,7 +3,7 @@ ghost use Rattle.std.specs.Prelude.{◌≡◌, ◌≤◌, ◌<◌, ◌+◌, [], 
 ghost use Rattle.program_steps.specs.Lines.{lines_of};
 ghost use Rattle.program_steps.specs.Asking.{AsksFor};
 ghost use Rattle.program_steps.specs.Plan.{file_refusal};
-ghost use Rattle.program_steps.specs.Replies.{Refuses, IsReadCause};
+ghost use Rattle.program_steps.specs.Replies.{CountsFault, Refuses, IsReadCause};
 ghost use Rattle.wallet_top.specs.Asked.{file_limit};
 ghost use Rattle.wallet_top.specs.Entries.{meant, meant_parts};
 ghost use Rattle.wallet_top.specs.Lines.{IsBadLine};
@@ -33,6 +33,7 @@ pub struct Entry {
 pub fn read_wallet<S: Store>(alloc: Global, store: &mut S, name: &str) -> Result<Vec<Entry>, Stop>
     ensures same { S.files store.new ≡ S.files store.old }
     ensures later { (other : List ℕ) → S.faults store.old other ≤ S.faults store.new other }
+    ensures counts { CountsFault (S.faults store.old) (S.faults store.new) result }
     ensures asked { AsksFor (S.faults store.old) (S.faults store.new) (S.asked store.old) (S.asked store.new) (name.now ∷ []) result }
     ensures passed { IfSome (S.files store.old) (λ files. IfOk result (λ _. file_refusal file_limit name.now bad_wallet (files name.now) ≡ None)) }
     ensures entries { IfSome (S.files store.old) (λ files. IfOk result (λ entries. map meant entries.items ≡ entries_in (files name.now))) }

@@ -29,6 +29,7 @@ loop-entry-preserved g c =
       number = omega (arith, c.loop-entry.invariant.number);
       same = c.find.ensures.same ∙ told;
       later = λ name. omega (arith, c.loop-entry.invariant.later name, c.find.ensures.later name);
+      counts = c.in_ok-finding.ensures.counts ∙ c.loop-entry.invariant.counts;
       text = both_told _ _ _ (λ files invariant found. text_step asked files es i e _ _ _ _ within c.entry-item.is found (rw c.loop-entry.invariant.number at c.in_ok-add_finding.ensures.text) invariant)
           _ c.loop-entry.invariant.text (rw told at c.in_ok-finding.ensures.finding);
       has_match = both_told _ _ _ (λ files invariant found. match_step asked files es i e _ _ _ _ within c.entry-item.is found c.in_ok-add_finding.ensures.has_match invariant)
@@ -46,6 +47,7 @@ loop-entry-init g c = record {
   number = search rules;
   same = search rules;
   later = search rules;
+  counts = search rules;
   text = search rules;
   has_match = search rules;
   passed = search rules;

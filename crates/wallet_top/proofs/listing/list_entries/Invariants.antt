@@ -15,6 +15,7 @@ invariant-loop-entry g l = record {
   number : l.number ≡ l.entry-index;
   same : g.S.Store.files l.store ≡ g.S.Store.files l.initial.store;
   later : (name : List ℕ) → g.S.Store.faults l.initial.store name ≤ g.S.Store.faults l.store name;
+  counts : g.S.Store.faults l.store ≡ g.S.Store.faults l.initial.store;
   text : IfSome (g.S.Store.files l.initial.store) (λ files.
       string_bytes l.listing.text ++ finding_lines l.entry-index (findings (option_copied l.asked) files (map meant (drop l.entry-index l.entries)))
       ≡ finding_lines 0 (findings (option_copied l.asked) files (map meant l.entries)));

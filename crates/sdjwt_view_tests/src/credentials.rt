@@ -1,5 +1,5 @@
 // Whole credentials.
-use super::{Error, SdCredential};
+use sdjwt_view::{Error, SdCredential};
 use base_forms::HashName;
 use claim_tree::{ClaimNode, ClaimView};
 use std::test::Fail;

@@ -1,5 +1,5 @@
 // Credentials whose disclosures lie anywhere.
-use super::{Error, SdCredential};
+use sdjwt_view::{Error, SdCredential};
 use base_forms::{HashName, to_url64};
 use claim_tree::{ClaimNode, ClaimView};
 use std::alloc::Global;

@@ -1,5 +1,5 @@
 // Whole documents, as base64url; made by another program.
-use super::{Error, MdCredential, MdNode};
+use mdoc_view::{Error, MdCredential, MdNode};
 use base_forms::{from_hex, from_url64};
 use claim_tree::{ClaimNode, ClaimView, Format, Shape};
 use std::test::Fail;
@@ -19,6 +19,14 @@ const LOOSE: &str =
 // An element's value of 31 lists inside one another.
 const DEEP: &str =
     "ompuYW1lU3BhY2VzoWFugdgYWFWkaGRpZ2VzdElEAGZyYW5kb21BcnFlbGVtZW50SWRlbnRpZmllcmFhbGVsZW1lbnRWYWx1ZYGBgYGBgYGBgYGBgYGBgYGBgYGBgYGBgYGBgYGBgYEBamlzc3VlckF1dGiEQ6EBJqBY0NgYWMymZ3ZlcnNpb25jMS4wZ2RvY1R5cGVhdG9kaWdlc3RBbGdvcml0aG1nU0hBLTI1Nmx2YWx1ZURpZ2VzdHOhYW6hAFggkgaBwXneU-34MQ-P1Ryk7yBR0W2369zAhO6uay50I0RsdmFsaWRpdHlJbmZvoml2YWxpZEZyb23AdDIwMjMtMTEtMTRUMjI6MTM6MjBaanZhbGlkVW50aWzAdDIwMjctMDEtMTVUMDg6MDA6MDBabWRldmljZUtleUluZm-haWRldmljZUtleaBA";
+
+// A device key of texts, a number, a byte string and a truth value under texts and numbers, with longer heads and in another order.
+const LABELS: &str =
+    "omppc3N1ZXJBdXRohEOhASagWN7YGFjapmdkb2NUeXBlYXRndmVyc2lvbmMxLjBsdmFsaWRpdHlJbmZvoml2YWxpZEZyb23AdDIwMjMtMTEtMTRUMjI6MTM6MjBaanZhbGlkVW50aWzAdDIwMjctMDEtMTVUMDg6MDA6MDBabHZhbHVlRGlnZXN0c6FhbqEAWCBn3TQsyhte0Hh-98gaimEAkdJLzKyU_EraV2dS9ACcuW1kZXZpY2VLZXlJbmZvoWlkZXZpY2VLZXmkYWthdGFhISBYAQEYAfVvZGlnZXN0QWxnb3JpdGhtZ1NIQS0yNTZAam5hbWVTcGFjZXOhYW6B2BhYNqRmcmFuZG9tQXJoZGlnZXN0SUQAbGVsZW1lbnRWYWx1ZQFxZWxlbWVudElkZW50aWZpZXJhYQ";
+
+// What stands behind the namespaces of a document, in hexadecimal.
+const WITHOUT_ITEMS: &str =
+    "6a697373756572417574688443a10126a058aad81858a6a66776657273696f6e63312e3067646f635479706561746f646967657374416c676f726974686d675348412d3235366c76616c756544696765737473a06c76616c6964697479496e666fa26976616c696446726f6dc074323032332d31312d31345432323a31333a32305a6a76616c6964556e74696cc074323032372d30312d31355430383a30303a30305a6d6465766963654b6579496e666fa1696465766963654b6579a040";
 
 // No namespaces.
 const NONE: &str =
@@ -119,6 +127,11 @@ fn refusals(rt: HostRuntime) -> Result<(), Fail> {
             "ompuYW1lU3BhY2VzoWFugdgYWDakaGRpZ2VzdElEAGZyYW5kb21BcnFlbGVtZW50SWRlbnRpZmllcmFhbGVsZW1lbnRWYWx1ZQFqaXNzdWVyQXV0aIRDoQEmoFiP2BhYi6ZndmVyc2lvbmMxLjBnZG9jVHlwZWF0b2RpZ2VzdEFsZ29yaXRobWdTSEEtMjU2bHZhbHVlRGlnZXN0c6FhbqEAWCAc-o5ngTKXXjtttJEjefmM4nwqp1GxFpZvKxwOIBF-aGx2YWxpZGl0eUluZm-AbWRldmljZUtleUluZm-haWRldmljZUtleaBA",
             Error::Refused(4),
         ),
+        // No digests
+        (
+            "omppc3N1ZXJBdXRohEOhASagWJzYGFiYpWdkb2NUeXBlYXRndmVyc2lvbmMxLjBsdmFsaWRpdHlJbmZvoml2YWxpZEZyb23AdDIwMjMtMTEtMTRUMjI6MTM6MjBaanZhbGlkVW50aWzAdDIwMjctMDEtMTVUMDg6MDA6MDBabWRldmljZUtleUluZm-haWRldmljZUtleaBvZGlnZXN0QWxnb3JpdGhtZ1NIQS0yNTZAam5hbWVTcGFjZXOhYW6B2BhYNqRmcmFuZG9tQXJoZGlnZXN0SUQAbGVsZW1lbnRWYWx1ZQFxZWxlbWVudElkZW50aWZpZXJhYQ",
+            Error::Refused(4),
+        ),
         // Another version
         (
             "ompuYW1lU3BhY2VzoWFugdgYWDakaGRpZ2VzdElEAGZyYW5kb21BcnFlbGVtZW50SWRlbnRpZmllcmFhbGVsZW1lbnRWYWx1ZQFqaXNzdWVyQXV0aIRDoQEmoFjQ2BhYzKZndmVyc2lvbmMxLjFnZG9jVHlwZWF0b2RpZ2VzdEFsZ29yaXRobWdTSEEtNTEybHZhbHVlRGlnZXN0c6FhbqEAWCAc-o5ngTKXXjtttJEjefmM4nwqp1GxFpZvKxwOIBF-aGx2YWxpZGl0eUluZm-iaXZhbGlkRnJvbcB0MjAyMy0xMS0xNFQyMjoxMzoyMFpqdmFsaWRVbnRpbMB0MjAyNy0wMS0xNVQwODowMDowMFptZGV2aWNlS2V5SW5mb6FpZGV2aWNlS2V5oEA",
@@ -194,6 +207,11 @@ fn refusals(rt: HostRuntime) -> Result<(), Fail> {
             "ompuYW1lU3BhY2VzoWFugdgYWCijaGRpZ2VzdElEAGZyYW5kb21BcnFlbGVtZW50SWRlbnRpZmllcmFhamlzc3VlckF1dGiEQ6EBJqBY0NgYWMymZ3ZlcnNpb25jMS4wZ2RvY1R5cGVhdG9kaWdlc3RBbGdvcml0aG1nU0hBLTI1Nmx2YWx1ZURpZ2VzdHOhYW6hAFgguX7yj3gtFSBE2afCNVPUgdtNxjZbGDLON_nEXys2WJxsdmFsaWRpdHlJbmZvoml2YWxpZEZyb23AdDIwMjMtMTEtMTRUMjI6MTM6MjBaanZhbGlkVW50aWzAdDIwMjctMDEtMTVUMDg6MDA6MDBabWRldmljZUtleUluZm-haWRldmljZUtleaBA",
             Error::Refused(10),
         ),
+        // No name of an element
+        (
+            "omppc3N1ZXJBdXRohEOhASagWNDYGFjMpmdkb2NUeXBlYXRndmVyc2lvbmMxLjBsdmFsaWRpdHlJbmZvoml2YWxpZEZyb23AdDIwMjMtMTEtMTRUMjI6MTM6MjBaanZhbGlkVW50aWzAdDIwMjctMDEtMTVUMDg6MDA6MDBabHZhbHVlRGlnZXN0c6FhbqEAWCCjXX67FVbWHNha7j2-MPsEoL_6LmbUGEmPa7bVMmRaqm1kZXZpY2VLZXlJbmZvoWlkZXZpY2VLZXmgb2RpZ2VzdEFsZ29yaXRobWdTSEEtMjU2QGpuYW1lU3BhY2VzoWFugdgYWCKjZnJhbmRvbUFyaGRpZ2VzdElEAGxlbGVtZW50VmFsdWUB",
+            Error::Refused(10),
+        ),
         // The last item of no form
         (
             "ompuYW1lU3BhY2VzomFtgtgYWDakaGRpZ2VzdElEAGZyYW5kb21BcnFlbGVtZW50SWRlbnRpZmllcmFhbGVsZW1lbnRWYWx1ZQHYGFg2pGhkaWdlc3RJRABmcmFuZG9tQXJxZWxlbWVudElkZW50aWZpZXJhYWxlbGVtZW50VmFsdWUBYW6B2BhBAWppc3N1ZXJBdXRohEOhASagWKrYGFimpmd2ZXJzaW9uYzEuMGdkb2NUeXBlYXRvZGlnZXN0QWxnb3JpdGhtZ1NIQS0yNTZsdmFsdWVEaWdlc3RzoGx2YWxpZGl0eUluZm-iaXZhbGlkRnJvbcB0MjAyMy0xMS0xNFQyMjoxMzoyMFpqdmFsaWRVbnRpbMB0MjAyNy0wMS0xNVQwODowMDowMFptZGV2aWNlS2V5SW5mb6FpZGV2aWNlS2V5oEA",
@@ -234,22 +252,20 @@ fn refusals(rt: HostRuntime) -> Result<(), Fail> {
     Ok(())
 }
 
-// 1,025 items, none of them of the form.
+// 1,025 items, none of them of the form, and 1,024.
 #[test]
 fn too_many(rt: HostRuntime) -> Result<(), Fail> {
     let alloc = rt.alloc();
-    let mut bytes = from_hex(alloc, "a26a6e616d65537061636573a1616e990401")?;
-    for _ in 0..1_025 {
-        bytes.extend_from_slice(&[216, 24, 64])?;
-    }
-    let rest = from_hex(
-        alloc,
-        "6a697373756572417574688443a10126a058aad81858a6a66776657273696f6e63312e3067646f635479706561746f646967657374416c676f726974686d675348412d3235366c76616c756544696765737473a06c76616c6964697479496e666fa26976616c696446726f6dc074323032332d31312d31345432323a31333a32305a6a76616c6964556e74696cc074323032372d30312d31355430383a30303a30305a6d6465766963654b6579496e666fa1696465766963654b6579a040",
-    )?;
-    bytes.extend_from_slice(&rest)?;
-    match MdCredential::read(alloc, &bytes) {
-        Ok(_) => assert!(rt; false),
-        Err(error) => assert_eq!(rt; error, Error::Refused(9)),
+    for (count, head, rule) in [(1_025, "a26a6e616d65537061636573a1616e990401", 9), (1_024, "a26a6e616d65537061636573a1616e990400", 10)] {
+        let mut bytes = from_hex(alloc, head)?;
+        for _ in 0..count {
+            bytes.extend_from_slice(&[216, 24, 64])?;
+        }
+        bytes.extend_from_slice(&from_hex(alloc, WITHOUT_ITEMS)?)?;
+        match MdCredential::read(alloc, &bytes) {
+            Ok(_) => assert!(rt; false),
+            Err(error) => assert_eq!(rt; error, Error::Refused(rule)),
+        }
     }
     Ok(())
 }
@@ -350,6 +366,11 @@ fn loose_forms(rt: HostRuntime) -> Result<(), Fail> {
     let holder = credential.facts().holder.ok_or("no holder")?;
     assert_eq!(rt; holder.text(), "cose:a301022001224102");
     assert_eq!(rt; credential.root().len(), 1);
+
+    let bytes = from_url64(alloc, LABELS)?;
+    let credential = MdCredential::read(alloc, &bytes)?;
+    let holder = credential.facts().holder.ok_or("no holder")?;
+    assert_eq!(rt; holder.text(), "cose:a401f5204101616121616b6174");
     Ok(())
 }
 

@@ -1,9 +1,9 @@
 // Which files runs ask for, and in which order.
-use crate::run;
-use crate::tests::words;
+use crate::runs::words;
 use outside::{MemorySink, MemoryStore, Status};
 use std::alloc::Global;
 use std::test::Fail;
+use wallet_top::run;
 
 const QUERY: &str =
     r#"{"credentials":[{"id":"a","format":"dc+sd-jwt","claims":[{"path":["given_name"]}]}]}"#;

@@ -1,9 +1,9 @@
 // Whole runs of `list` over forms in memory.
-use crate::run;
-use crate::tests::words;
+use crate::runs::words;
 use outside::{MemorySink, MemoryStore, Status};
 use std::alloc::Global;
 use std::test::Fail;
+use wallet_top::run;
 
 // The header of an issuer's message, {"alg":"ES256","typ":"dc+sd-jwt"}, and its payloads.
 const HEADER: &str = "eyJhbGciOiJFUzI1NiIsInR5cCI6ImRjK3NkLWp3dCJ9";

@@ -1,8 +1,9 @@
-// Whole runs over forms in memory.
-use super::run;
+// Whole runs of `try` over forms in memory.
+use crate::runs::words;
 use outside::{MemorySink, MemoryStore, Status};
 use std::alloc::Global;
 use std::test::Fail;
+use wallet_top::run;
 
 const QUERY: &str =
     r#"{"credentials":[{"id":"a","format":"dc+sd-jwt","claims":[{"path":["given_name"]}]}]}"#;
@@ -14,14 +15,6 @@ const MATCHES: &str = "match 0\nmatch 2\nend\n";
 // The query with other members in its credential query.
 fn query_with(alloc: Global, members: &str) -> Result<String, Fail> {
     Ok(format!(in alloc; "{{\"credentials\":[{{\"id\":\"a\",\"format\":\"f\",{members}}}]}}")?)
-}
-
-pub fn words(alloc: Global, texts: &[&str]) -> Result<Vec<String>, Fail> {
-    let mut words = Vec::new(alloc);
-    for text in texts {
-        words.push(String::from_str(alloc, text)?)?;
-    }
-    Ok(words)
 }
 
 // Runs `try q t` over a store, with room for so many bytes.
