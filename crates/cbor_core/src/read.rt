@@ -53,7 +53,7 @@ fn rule_of(fault: Fault) -> u8
     }
 }
 
-/// The rule that bytes break which have no item at the front that is fine: of several, the least.
+/// The rule that bytes break which have no item at the front that is fine.
 #[tactic(auto, unfolding(crate::specs::Rules::broken_rule), using(crate::proofs::Inside::wrong_maps))]
 fn front_rule(bytes: &[u8], depth: u32) -> u8
     requires depth { depth ≤ MAX_DEPTH }
@@ -72,10 +72,11 @@ fn front_rule(bytes: &[u8], depth: u32) -> u8
 ///
 /// # Errors
 ///
-/// `Refused` with the least broken rule: 1 the bytes end within the item, 2 a reserved head, 3 a
-/// string in chunks, 4 a text that is not UTF-8, 5 a key doubled in a map, 6 more lists, maps and
-/// tags inside one another than `depth`, 7 bytes are left over. Of 1, 2, 3 and 6, which are found
-/// head by head from the front, the one that is met first. And want of memory.
+/// `Refused` with the broken rule: 1 the bytes end within the item, 2 a reserved head, 3 a string in
+/// chunks, 4 a text that is not UTF-8, 5 a key doubled in a map, 6 more lists, maps and tags inside
+/// one another than `depth`, 7 bytes are left over. Of 1, 2, 3 and 6 it is the one that is met first,
+/// head by head from the front; where none of these is broken, the least of 4, 5 and 7. And want of
+/// memory.
 #[tactic(auto, unfolding(crate::specs::Rules::broken_rule), using(crate::proofs::Inside::before_nothing, crate::proofs::Inside::fine_texts, crate::proofs::Inside::fine_maps))]
 pub fn read_one<'a>(alloc: Global, bytes: &'a [u8], depth: u32) -> Result<Item<'a>, Error>
     requires { depth ≤ 64 }
