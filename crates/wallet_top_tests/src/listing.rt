@@ -15,8 +15,9 @@ const PLAIN: &str = "eyJ2Y3QiOiJ0In0";
 
 const WITHIN: &str = "eyJhIjp7Il9zZCI6W119LCJ2Y3QiOiJ0In0";
 
-// A disclosure of RFC 9901, section 4.2.1: a family name.
-const FAMILY_NAME: &str = "WyJfMjZiYzRMVC1hYzZxMktJNmNCVzVlcyIsICJmYW1pbHlfbmFtZSIsICJNw7ZiaXVzIl0";
+// What follows a message with one disclosure, that of RFC 9901, section 4.2.1: a family name.
+const FAMILY_NAME: &str =
+    "~WyJfMjZiYzRMVC1hYzZxMktJNmNCVzVlcyIsICJmYW1pbHlfbmFtZSIsICJNw7ZiaXVzIl0~";
 
 // A plain list `open`, and a list `nat` of two elements that are both disclosed.
 const NATIONALITIES: &str =
@@ -57,62 +58,58 @@ fn query_for(alloc: Global, path: &str) -> Result<String, Fail> {
     )?)
 }
 
+// Credentials by their payload, what follows the message, and how they end.
 #[test]
 fn credentials(rt: HostRuntime) -> Result<(), Fail> {
     let alloc = rt.alloc();
-    let family_name = r#"["family_name"]"#;
-    let matching = format!(in alloc; "{HEADER}.{WITH_DIGEST}.~{FAMILY_NAME}~")?;
-    let with_feed = format!(in alloc; "{matching}\n")?;
-    let with_feeds = format!(in alloc; "{matching}\n\n")?;
-    let plain = format!(in alloc; "{HEADER}.{PLAIN}.~")?;
-    let unplaced = format!(in alloc; "{HEADER}.{PLAIN}.~{FAMILY_NAME}~")?;
-    let within = format!(in alloc; "{HEADER}.{WITHIN}.~")?;
-    let without_tilde = format!(in alloc; "{HEADER}.{PLAIN}.")?;
-    let rows: [(&str, &[u8], Status, &str); 12] = [
+    let query = query_for(alloc, r#"["family_name"]"#)?;
+    for (payload, disclosures, end, status, text) in [
+        (WITH_DIGEST, FAMILY_NAME, "", Status::Done, "match 0\nend\n"),
         (
-            family_name,
-            matching.as_bytes(),
+            WITH_DIGEST,
+            FAMILY_NAME,
+            "\n",
             Status::Done,
             "match 0\nend\n",
         ),
         (
-            family_name,
-            with_feed.as_bytes(),
-            Status::Done,
-            "match 0\nend\n",
-        ),
-        (
-            family_name,
-            with_feeds.as_bytes(),
+            WITH_DIGEST,
+            FAMILY_NAME,
+            "\n\n",
             Status::NoOption,
             "note 0 unreadable 1\nnone\n",
         ),
-        (family_name, plain.as_bytes(), Status::NoOption, "none\n"),
+        (PLAIN, "~", "", Status::NoOption, "none\n"),
         (
-            family_name,
-            unplaced.as_bytes(),
+            PLAIN,
+            FAMILY_NAME,
+            "",
             Status::NoOption,
             "note 0 unreadable 10\nnone\n",
         ),
-        (family_name, within.as_bytes(), Status::NoOption, "none\n"),
         (
-            family_name,
-            without_tilde.as_bytes(),
+            PLAIN,
+            "",
+            "",
             Status::NoOption,
             "note 0 unreadable 1\nnone\n",
         ),
-        (
-            family_name,
-            b"e30.e30.~",
-            Status::NoOption,
-            "note 0 unreadable 2\nnone\n",
-        ),
-        (
-            family_name,
-            b"\xff",
-            Status::NoOption,
-            "note 0 unreadable 0\nnone\n",
-        ),
+        (WITHIN, "~", "", Status::NoOption, "none\n"),
+    ] {
+        let credential = format!(in alloc; "{HEADER}.{payload}.{disclosures}{end}")?;
+        let mut store = store_with(alloc, "a file", credential.as_bytes())?;
+        let (got, bytes) = listed(alloc, &mut store, query.as_str(), b"dc+sd-jwt a file")?;
+        assert_eq!(rt; got, status, "{text}");
+        assert_eq!(rt; bytes.as_slice(), text.as_bytes());
+    }
+    Ok(())
+}
+
+// Paths into lists, and files that are no credentials.
+#[test]
+fn lists(rt: HostRuntime) -> Result<(), Fail> {
+    let alloc = rt.alloc();
+    for (path, credential, status, text) in [
         (
             r#"["nat",null]"#,
             NATIONALITIES.as_bytes(),
@@ -131,11 +128,22 @@ fn credentials(rt: HostRuntime) -> Result<(), Fail> {
             Status::Done,
             "match 0\nend\n",
         ),
-    ];
-    for (path, credential, status, text) in rows {
+        (
+            r#"["a"]"#,
+            b"e30.e30.~",
+            Status::NoOption,
+            "note 0 unreadable 2\nnone\n",
+        ),
+        (
+            r#"["a"]"#,
+            b"\xff",
+            Status::NoOption,
+            "note 0 unreadable 0\nnone\n",
+        ),
+    ] {
         let query = query_for(alloc, path)?;
-        let mut store = store_with(alloc, "a file", credential)?;
-        let (got, bytes) = listed(alloc, &mut store, query.as_str(), b"dc+sd-jwt a file")?;
+        let mut store = store_with(alloc, "c", credential)?;
+        let (got, bytes) = listed(alloc, &mut store, query.as_str(), b"dc+sd-jwt c")?;
         assert_eq!(rt; got, status, "{text}");
         assert_eq!(rt; bytes.as_slice(), text.as_bytes());
     }
@@ -181,20 +189,10 @@ fn wallets(rt: HostRuntime) -> Result<(), Fail> {
     let query = query_for(alloc, r#"["family_name"]"#)?;
     let no_path = query_for(alloc, "[]")?;
     let two = r#"{"credentials":[{"id":"a","format":"f"},{"id":"b","format":"f"}]}"#;
-    let credential = format!(in alloc; "{HEADER}.{WITH_DIGEST}.~{FAMILY_NAME}~")?;
-    let mut full = Vec::new(alloc);
-    for _ in 0..64 {
-        full.extend_from_slice(b"dc+sd-jwt x\n")?;
-    }
-    let mut over = full.clone()?;
-    over.extend_from_slice(b"dc+sd-jwt x\n")?;
-    let mut long = Vec::new(alloc);
-    for _ in 0..262_145 {
-        long.push(b'.')?;
-    }
+    let credential = format!(in alloc; "{HEADER}.{WITH_DIGEST}.{FAMILY_NAME}")?;
     let some = b"dc+sd-jwt x\ndc+sd-jwt c\ndc+sd-jwt x".as_slice();
     let found = "note 0 unreadable 1\nmatch 1\nnote 2 unreadable 1\nend\n";
-    let rows: [(&str, &[u8], Status, &str); 16] = [
+    let rows: [(&str, &[u8], Status, &str); 14] = [
         (query.as_str(), some, Status::Done, found),
         (&query, b"", Status::NoOption, "none\n"),
         (
@@ -229,14 +227,7 @@ fn wallets(rt: HostRuntime) -> Result<(), Fail> {
             Status::ReadFault,
             "read fault\n",
         ),
-        (&query, &over, Status::FileRefused, "file refused w 65\n"),
         (&query, b"dc+sd-jwt d", Status::ReadFault, "read fault\n"),
-        (
-            &query,
-            b"dc+sd-jwt c\ndc+sd-jwt l",
-            Status::TooLong,
-            "too long l\n",
-        ),
         ("{", b"x", Status::FileRefused, "file refused q 1\n"),
         (&no_path, some, Status::RequestRefused, "refused query 14\n"),
         (&no_path, b"dc+sd-jwt d", Status::ReadFault, "read fault\n"),
@@ -245,13 +236,38 @@ fn wallets(rt: HostRuntime) -> Result<(), Fail> {
     for (query, wallet, status, text) in rows {
         let mut store = store_with(alloc, "c", credential.as_bytes())?;
         store.put("x", b"x")?;
-        store.put("l", &long)?;
         let (got, bytes) = listed(alloc, &mut store, query, wallet)?;
         assert_eq!(rt; got, status, "{text}");
         assert_eq!(rt; bytes.as_slice(), text.as_bytes());
     }
-    let mut store = store_with(alloc, "x", b"x")?;
-    let (got, _) = listed(alloc, &mut store, query.as_str(), &full)?;
-    assert_eq!(rt; got, Status::NoOption);
+    Ok(())
+}
+
+// The same line so many times.
+fn repeated(alloc: Global, line: &[u8], count: usize) -> Result<Vec<u8>, Fail> {
+    let mut lines = Vec::new(alloc);
+    for _ in 0..count {
+        lines.extend_from_slice(line)?;
+    }
+    Ok(lines)
+}
+
+// As many credentials as may be and one more, and a credential that is as long as may be and a longer one.
+#[test]
+fn limits(rt: HostRuntime) -> Result<(), Fail> {
+    let alloc = rt.alloc();
+    let query = query_for(alloc, r#"["family_name"]"#)?;
+    let most = repeated(alloc, b"dc+sd-jwt x\n", 64)?;
+    let more = repeated(alloc, b"dc+sd-jwt x\n", 65)?;
+    for (wallet, size, status) in [
+        (most.as_slice(), 262_144, Status::NoOption),
+        (&more, 262_144, Status::FileRefused),
+        (b"dc+sd-jwt x", 262_145, Status::TooLong),
+    ] {
+        let credential = repeated(alloc, b".", size)?;
+        let mut store = store_with(alloc, "x", &credential)?;
+        let (got, _) = listed(alloc, &mut store, query.as_str(), wallet)?;
+        assert_eq!(rt; got, status, "{size}");
+    }
     Ok(())
 }

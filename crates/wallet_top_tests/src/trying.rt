@@ -127,7 +127,7 @@ fn runs(rt: HostRuntime) -> Result<(), Fail> {
 }
 
 #[test]
-fn faults_and_limits(rt: HostRuntime) -> Result<(), Fail> {
+fn faults(rt: HostRuntime) -> Result<(), Fail> {
     let alloc = rt.alloc();
     for (call, status, text) in [
         (0, Status::ReadFault, "read fault\n"),
@@ -140,35 +140,55 @@ fn faults_and_limits(rt: HostRuntime) -> Result<(), Fail> {
         assert_eq!(rt; got, status);
         assert_eq!(rt; bytes.as_slice(), text.as_bytes());
     }
-    let mut store = stored(alloc, QUERY, TREES.as_bytes())?;
-    let (got, bytes) = tried(alloc, &mut store, 9)?;
-    assert_eq!(rt; got, Status::WriteFault);
-    assert_eq!(rt; bytes.as_slice(), b"match 0\nm".as_slice());
-    for (size, status, text) in [
-        (1_048_576, Status::Done, "match 0\nend\n"),
-        (1_048_577, Status::TooLong, "too long t\n"),
+    Ok(())
+}
+
+#[test]
+fn rooms(rt: HostRuntime) -> Result<(), Fail> {
+    let alloc = rt.alloc();
+    for (room, status, text) in [
+        (20, Status::Done, MATCHES),
+        (9, Status::WriteFault, "match 0\nm"),
+        (0, Status::WriteFault, ""),
     ] {
-        let mut store = stored(alloc, QUERY, &padded(alloc, size)?)?;
-        let (got, bytes) = tried(alloc, &mut store, 99)?;
+        let mut store = stored(alloc, QUERY, TREES.as_bytes())?;
+        let (got, bytes) = tried(alloc, &mut store, room)?;
         assert_eq!(rt; got, status);
         assert_eq!(rt; bytes.as_slice(), text.as_bytes());
     }
-    let mut store = stored(alloc, QUERY, TREES.as_bytes())?;
-    store.put("q", b"\"\xff\"")?;
-    let (got, bytes) = tried(alloc, &mut store, 99)?;
-    assert_eq!(rt; got, Status::FileRefused);
-    assert_eq!(rt; bytes.as_slice(), b"file refused q 1\n".as_slice());
-    store.put("q", &padded(alloc, 1_048_577)?)?;
-    let (got, bytes) = tried(alloc, &mut store, 99)?;
-    assert_eq!(rt; got, Status::TooLong);
-    assert_eq!(rt; bytes.as_slice(), b"too long q\n".as_slice());
+    Ok(())
+}
+
+// Other bytes in one of the two files: of the greatest size and past it, no text, and no file.
+#[test]
+fn files(rt: HostRuntime) -> Result<(), Fail> {
+    let alloc = rt.alloc();
+    let most = padded(alloc, 1_048_576)?;
+    let more = padded(alloc, 1_048_577)?;
+    for (name, bytes, status, text) in [
+        ("t", most.as_slice(), Status::Done, "match 0\nend\n"),
+        ("t", &more, Status::TooLong, "too long t\n"),
+        ("q", &more, Status::TooLong, "too long q\n"),
+        ("q", b"\"\xff\"", Status::FileRefused, "file refused q 1\n"),
+    ] {
+        let mut store = stored(alloc, QUERY, TREES.as_bytes())?;
+        store.put(name, bytes)?;
+        let (got, written) = tried(alloc, &mut store, 99)?;
+        assert_eq!(rt; got, status, "{text}");
+        assert_eq!(rt; written.as_slice(), text.as_bytes());
+    }
     let mut empty = MemoryStore::new(alloc);
     assert_eq!(rt; tried(alloc, &mut empty, 99)?.0, Status::ReadFault);
+    Ok(())
+}
+
+#[test]
+fn no_command(rt: HostRuntime) -> Result<(), Fail> {
+    let alloc = rt.alloc();
+    let mut store = MemoryStore::new(alloc);
     let mut out = MemorySink::new(alloc, 99)?;
-    assert_eq!(rt;
-        run(alloc, &words(alloc, &["try", "q"])?, &mut empty, &mut out),
-        Status::Usage
-    );
+    let words = words(alloc, &["try", "q"])?;
+    assert_eq!(rt; run(alloc, &words, &mut store, &mut out), Status::Usage);
     assert_eq!(rt; out.bytes(), b"usage\n".as_slice());
     Ok(())
 }
