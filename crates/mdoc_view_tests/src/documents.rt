@@ -1,7 +1,7 @@
 // Whole documents, as base64url; made by another program.
-use mdoc_view::{Error, MdCredential, MdNode};
 use base_forms::{from_hex, from_url64};
 use claim_tree::{ClaimNode, ClaimView, Format, Shape};
+use mdoc_view::{Error, MdCredential, MdNode};
 use std::test::Fail;
 
 // A driving licence of four elements.
@@ -256,7 +256,10 @@ fn refusals(rt: HostRuntime) -> Result<(), Fail> {
 #[test]
 fn too_many(rt: HostRuntime) -> Result<(), Fail> {
     let alloc = rt.alloc();
-    for (count, head, rule) in [(1_025, "a26a6e616d65537061636573a1616e990401", 9), (1_024, "a26a6e616d65537061636573a1616e990400", 10)] {
+    for (count, head, rule) in [
+        (1_025, "a26a6e616d65537061636573a1616e990401", 9),
+        (1_024, "a26a6e616d65537061636573a1616e990400", 10),
+    ] {
         let mut bytes = from_hex(alloc, head)?;
         for _ in 0..count {
             bytes.extend_from_slice(&[216, 24, 64])?;

@@ -1,7 +1,7 @@
 // Whole credentials.
-use sdjwt_view::{Error, SdCredential};
 use base_forms::HashName;
 use claim_tree::{ClaimNode, ClaimView};
+use sdjwt_view::{Error, SdCredential};
 use std::test::Fail;
 
 // An issuer's JWS with one digest, and RFC 9901's disclosure of a family name.

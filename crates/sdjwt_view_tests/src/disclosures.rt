@@ -1,7 +1,7 @@
 // Credentials whose disclosures lie anywhere.
-use sdjwt_view::{Error, SdCredential};
 use base_forms::{HashName, to_url64};
 use claim_tree::{ClaimNode, ClaimView};
+use sdjwt_view::{Error, SdCredential};
 use std::alloc::Global;
 use std::test::Fail;
 
@@ -37,6 +37,15 @@ fn issued(alloc: Global, payload: &str, disclosures: &[&str]) -> Result<String, 
     Ok(text)
 }
 
+// The rule by which a text is refused, none where it is read.
+fn refusal(alloc: Global, text: &str) -> Result<Option<u8>, Fail> {
+    match SdCredential::read(alloc, text) {
+        Ok(_) => Ok(None),
+        Err(Error::Refused(rule)) => Ok(Some(rule)),
+        Err(error) => Err(error)?,
+    }
+}
+
 // The payload of a claim that is so many lists inside one another.
 fn nested(alloc: Global, lists: usize) -> Result<String, Fail> {
     let opened = "[".repeat(alloc, lists)?;
@@ -47,59 +56,44 @@ fn nested(alloc: Global, lists: usize) -> Result<String, Fail> {
 #[test]
 fn misplaced(rt: HostRuntime) -> Result<(), Fail> {
     let alloc = rt.alloc();
-    for (payload, disclosures, error) in [
+    for (payload, disclosures, rule) in [
         (
             r#"{"_sd":["d"],"a":{"_sd":["d"]},"vct":"t"}"#,
             &[] as &[&str],
-            Error::Refused(9),
+            9,
         ),
         (
             r#"{"_sd":["RlALe23Hx7D5wgpDCokdL3QONKJruPgikDiqr0cq8V8","5RHwezGlaycExQp2XY8A1BXhCcjlE2aAFTXVrdnUQMc"],"vct":"t"}"#,
             &[OUTER, INNER] as &[&str],
-            Error::Refused(9),
+            9,
         ),
-        (r#"{"vct":"t"}"#, &[INNER] as &[&str], Error::Refused(10)),
+        (r#"{"vct":"t"}"#, &[INNER] as &[&str], 10),
         (
             r#"{"_sd":["5RHwezGlaycExQp2XY8A1BXhCcjlE2aAFTXVrdnUQMc"],"vct":"t"}"#,
             &[INNER, INNER] as &[&str],
-            Error::Refused(10),
+            10,
         ),
-        (
-            r#"{"vct":"t"}"#,
-            &[OUTER, INNER] as &[&str],
-            Error::Refused(10),
-        ),
+        (r#"{"vct":"t"}"#, &[OUTER, INNER] as &[&str], 10),
         (
             r#"{"vct":"t","l":[{"...":"5RHwezGlaycExQp2XY8A1BXhCcjlE2aAFTXVrdnUQMc"}]}"#,
             &[INNER] as &[&str],
-            Error::Refused(11),
+            11,
         ),
         (
             r#"{"_sd":["RK1UHeJR8yD1A8lq9-n4eK1YGIQTkyh4UaXAAfRCgcI"],"vct":"t"}"#,
             &[ELEMENT] as &[&str],
-            Error::Refused(11),
+            11,
         ),
         (
             r#"{"a":{"_sd":["5RHwezGlaycExQp2XY8A1BXhCcjlE2aAFTXVrdnUQMc"],"i":2},"vct":"t"}"#,
             &[INNER] as &[&str],
-            Error::Refused(12),
+            12,
         ),
     ] {
         let text = issued(alloc, payload, disclosures)?;
-        match SdCredential::read(alloc, text.as_str()) {
-            Ok(_) => assert!(rt; false, "{payload} is read"),
-            Err(got) => assert_eq!(rt; got, error, "{payload}"),
-        }
+        assert_eq!(rt; refusal(alloc, text.as_str())?, Some(rule), "{payload}");
     }
     Ok(())
-}
-
-// Whether a text is refused by this rule.
-fn is_refused(alloc: Global, text: &str, rule: u8) -> bool {
-    match SdCredential::read(alloc, text) {
-        Ok(_) => false,
-        Err(error) => error == Error::Refused(rule),
-    }
 }
 
 // Each rule that a payload breaks by itself, once and once more where it has several parts.
@@ -125,7 +119,7 @@ fn malformed_payloads(rt: HostRuntime) -> Result<(), Fail> {
         (r#"{"cnf":{"jwk":{"x":[1,1e3]}},"vct":"t"}"#, 17),
     ] {
         let text = issued(alloc, payload, &[])?;
-        assert!(rt; is_refused(alloc, text.as_str(), rule), "{payload}");
+        assert_eq!(rt; refusal(alloc, text.as_str())?, Some(rule), "{payload}");
     }
     Ok(())
 }
@@ -144,15 +138,20 @@ fn malformed_disclosures(rt: HostRuntime) -> Result<(), Fail> {
         (r#"["s",{"...":"d"}]"#, 8),
     ] {
         let text = issued(alloc, r#"{"vct":"t"}"#, &[disclosure])?;
-        assert!(rt; is_refused(alloc, text.as_str(), rule), "{disclosure}");
+        assert_eq!(rt; refusal(alloc, text.as_str())?, Some(rule), "{disclosure}");
     }
     Ok(())
 }
 
+// The digest of a disclosure.
+fn digest_of(alloc: Global, disclosure: &str) -> Result<String, Fail> {
+    let text = to_url64(alloc, disclosure.as_bytes())?;
+    Ok(to_url64(alloc, HashName::Sha256.digest(text.as_bytes()).bytes())?)
+}
+
 // A payload that begins so, with the digest of this disclosure in its own `_sd`.
 fn with_digest(alloc: Global, start: &str, disclosure: &str) -> Result<String, Fail> {
-    let text = to_url64(alloc, disclosure.as_bytes())?;
-    let digest = to_url64(alloc, HashName::Sha256.digest(text.as_bytes()).bytes())?;
+    let digest = digest_of(alloc, disclosure)?;
     Ok(format!(in alloc; "{start}\"_sd\":[\"{digest}\"]}}")?)
 }
 
@@ -176,7 +175,7 @@ fn kept_for_the_payload(rt: HostRuntime) -> Result<(), Fail> {
         let payload = with_digest(alloc, "{\"vct2\":1,", disclosure)?;
         let text = issued(alloc, payload.as_str(), &[disclosure])?;
         let rule = if is_kept { 13 } else { 15 };
-        assert!(rt; is_refused(alloc, text.as_str(), rule), "{disclosure}");
+        assert_eq!(rt; refusal(alloc, text.as_str())?, Some(rule), "{disclosure}");
     }
     Ok(())
 }
@@ -262,5 +261,79 @@ fn issued_elsewhere(rt: HostRuntime) -> Result<(), Fail> {
     let open = listed.root().member("open").ok_or("no plain list")?;
     assert!(rt; !open.loose());
     assert_eq!(rt; open.len(), 2);
+    Ok(())
+}
+
+// Rules that are broken behind the last disclosure, and inside a list or what a disclosure says.
+#[test]
+fn broken_inside(rt: HostRuntime) -> Result<(), Fail> {
+    let alloc = rt.alloc();
+    for (end, rule) in [("%~", 6), ("e30", 1), ("~x", 1)] {
+        let text = format!(in alloc; "{HEADER}.eyJ2Y3QiOiJ0In0.~{end}")?;
+        assert_eq!(rt; refusal(alloc, text.as_str())?, Some(rule), "{end}");
+    }
+    let listed =
+        r#"{"l":[{"_sd":["5RHwezGlaycExQp2XY8A1BXhCcjlE2aAFTXVrdnUQMc"],"i":2}],"vct":"t"}"#;
+    let text = issued(alloc, listed, &[INNER])?;
+    assert_eq!(rt; refusal(alloc, text.as_str())?, Some(12));
+    let twice = r#"["s","o",{"_sd":["5RHwezGlaycExQp2XY8A1BXhCcjlE2aAFTXVrdnUQMc"],"i":2}]"#;
+    let payload = with_digest(alloc, "{\"vct\":\"t\",", twice)?;
+    let text = issued(alloc, payload.as_str(), &[twice, INNER])?;
+    assert_eq!(rt; refusal(alloc, text.as_str())?, Some(12));
+    Ok(())
+}
+
+// A text so many times, something, and another text so many times.
+fn within(
+    alloc: Global,
+    open: &str,
+    inside: &str,
+    close: &str,
+    levels: usize,
+) -> Result<String, Fail> {
+    let opened = open.repeat(alloc, levels)?;
+    let closed = close.repeat(alloc, levels)?;
+    Ok(format!(in alloc; "{opened}{inside}{closed}")?)
+}
+
+// Objects inside one another, as many as may be and one more, below the payload.
+#[test]
+fn deep_objects(rt: HostRuntime) -> Result<(), Fail> {
+    let alloc = rt.alloc();
+    for (levels, rule) in [(63, None), (64, Some(14))] {
+        let value = within(alloc, "{\"a\":", "0", "}", levels)?;
+        let payload = format!(in alloc; "{{\"vct\":\"t\",\"a\":{value}}}")?;
+        let text = issued(alloc, payload.as_str(), &[])?;
+        assert_eq!(rt; refusal(alloc, text.as_str())?, rule, "{levels}");
+    }
+    Ok(())
+}
+
+// Lists inside one another in a disclosed member of the payload.
+#[test]
+fn deep_members(rt: HostRuntime) -> Result<(), Fail> {
+    let alloc = rt.alloc();
+    for (levels, rule) in [(63, None), (64, Some(14))] {
+        let value = within(alloc, "[", "", "]", levels)?;
+        let member = format!(in alloc; "[\"s\",\"a\",{value}]")?;
+        let payload = with_digest(alloc, "{\"vct\":\"t\",", member.as_str())?;
+        let text = issued(alloc, payload.as_str(), &[member.as_str()])?;
+        assert_eq!(rt; refusal(alloc, text.as_str())?, rule, "{levels}");
+    }
+    Ok(())
+}
+
+// The same in a disclosed element of a list.
+#[test]
+fn deep_elements(rt: HostRuntime) -> Result<(), Fail> {
+    let alloc = rt.alloc();
+    for (levels, rule) in [(62, None), (63, Some(14))] {
+        let value = within(alloc, "[", "", "]", levels)?;
+        let element = format!(in alloc; "[\"s\",{value}]")?;
+        let digest = digest_of(alloc, element.as_str())?;
+        let payload = format!(in alloc; "{{\"vct\":\"t\",\"l\":[{{\"...\":\"{digest}\"}}]}}")?;
+        let text = issued(alloc, payload.as_str(), &[element.as_str()])?;
+        assert_eq!(rt; refusal(alloc, text.as_str())?, rule, "{levels}");
+    }
     Ok(())
 }
