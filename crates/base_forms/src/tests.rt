@@ -2,10 +2,11 @@ use crate::{
     DateRule, Error, HashName, from_hex, from_url64, leaf_name, read_tdate, to_hex, to_url64,
 };
 use std::alloc::Global;
+use std::test::Fail;
 
 // The test vectors of RFC 4648, section 10, and bytes whose base64url has both its own characters.
 #[test]
-fn base64url_of_known_bytes(rt: HostRuntime) {
+fn base64url_of_known_bytes(rt: HostRuntime) -> Result<(), Fail> {
     let alloc = rt.alloc();
     for (text, wanted) in [
         ("", ""),
@@ -15,24 +16,20 @@ fn base64url_of_known_bytes(rt: HostRuntime) {
         ("foob", "Zm9vYg"),
         ("~~~???", "fn5-Pz8_"),
     ] {
-        assert!(rt; is_url64_of(alloc, wanted, text.as_bytes()), "of {text}");
+        assert!(rt; is_url64_of(alloc, wanted, text.as_bytes())?, "of {text}");
     }
+    Ok(())
 }
 
 // Whether the text is written for the bytes, and these are read from it.
-fn is_url64_of(alloc: Global, text: &str, bytes: &[u8]) -> bool {
-    let is_written = match to_url64(alloc, bytes) {
-        Ok(written) => written.as_str() == text,
-        Err(_) => false,
-    };
-    match from_url64(alloc, text) {
-        Ok(read) => is_written && read.as_slice() == bytes,
-        Err(_) => false,
-    }
+fn is_url64_of(alloc: Global, text: &str, bytes: &[u8]) -> Result<bool, Fail> {
+    let written = to_url64(alloc, bytes)?;
+    let read = from_url64(alloc, text)?;
+    Ok(written.as_str() == text && read.as_slice() == bytes)
 }
 
 #[test]
-fn hexadecimal_of_known_bytes(rt: HostRuntime) {
+fn hexadecimal_of_known_bytes(rt: HostRuntime) -> Result<(), Fail> {
     let alloc = rt.alloc();
     for (text, wanted) in [
         ("", ""),
@@ -41,16 +38,26 @@ fn hexadecimal_of_known_bytes(rt: HostRuntime) {
         ("~~~???", "7e7e7e3f3f3f"),
         ("é", "c3a9"),
     ] {
-        let digits = to_hex(alloc, text.as_bytes()).expect(&rt, "hexadecimal");
+        let digits = to_hex(alloc, text.as_bytes())?;
         assert!(rt; digits.as_str() == wanted, "of {text}");
-        let bytes = from_hex(alloc, wanted).expect(&rt, "bytes");
+        let bytes = from_hex(alloc, wanted)?;
         assert!(rt; bytes.as_slice() == text.as_bytes(), "of {wanted}");
+    }
+    Ok(())
+}
+
+// The rule by which a text is refused, none where it is read.
+fn refusal(read: Result<Vec<u8>, Error>) -> Result<Option<u8>, Fail> {
+    match read {
+        Ok(_) => Ok(None),
+        Err(Error::Refused(rule)) => Ok(Some(rule)),
+        Err(error) => Err(error)?,
     }
 }
 
 // Texts that break one rule each; and two that break more, of which the first is answered.
 #[test]
-fn texts_that_are_no_form(rt: HostRuntime) {
+fn texts_that_are_no_form(rt: HostRuntime) -> Result<(), Fail> {
     let alloc = rt.alloc();
     for (text, rule) in [
         ("Zg==", 1),
@@ -68,24 +75,19 @@ fn texts_that_are_no_form(rt: HostRuntime) {
         ("=", 1),
         ("Z=", 1),
     ] {
-        assert!(rt;
-            from_url64(alloc, text) == Err(Error::Refused(rule)),
-            "of {text}"
-        );
+        assert_eq!(rt; refusal(from_url64(alloc, text))?, Some(rule), "of {text}");
     }
     for text in ["f", "666", "6F", "fg", "-1", "é"] {
-        assert!(rt;
-            from_hex(alloc, text) == Err(Error::Refused(1)),
-            "of {text}"
-        );
+        assert_eq!(rt; refusal(from_hex(alloc, text))?, Some(1), "of {text}");
     }
+    Ok(())
 }
 
 // Disclosures and their digests of RFC 9901, and the digest of `abc` in FIPS 180-4.
 #[test]
-fn digests_by_name(rt: HostRuntime) {
+fn digests_by_name(rt: HostRuntime) -> Result<(), Fail> {
     let alloc = rt.alloc();
-    let hash = HashName::from_text("sha-256").expect(&rt, "a hash");
+    let hash = HashName::from_text("sha-256").ok_or("no hash")?;
     for (text, wanted) in [
         (
             "WyJfMjZiYzRMVC1hYzZxMktJNmNCVzVlcyIsICJmYW1pbHlfbmFtZSIsICJNw7ZiaXVzIl0",
@@ -97,10 +99,10 @@ fn digests_by_name(rt: HostRuntime) {
         ),
     ] {
         let digest = hash.digest(text.as_bytes());
-        let spelled = to_url64(alloc, digest.bytes()).expect(&rt, "base64url");
+        let spelled = to_url64(alloc, digest.bytes())?;
         assert_eq!(rt; spelled.as_str(), wanted);
     }
-    let name = leaf_name(alloc, "abc".as_bytes()).expect(&rt, "a name");
+    let name = leaf_name(alloc, "abc".as_bytes())?;
     assert_eq!(rt;
         name.as_str(),
         "x5:ba7816bf8f01cfea414140de5dae2223b00361a396177a9cb410ff61f20015ad"
@@ -112,6 +114,7 @@ fn digests_by_name(rt: HostRuntime) {
     for text in ["", "sha-256", "SHA-384", "SHA-2561", "SHA-25"] {
         assert!(rt; HashName::from_mso(text).is_none(), "of {text}");
     }
+    Ok(())
 }
 
 // The last second is by the calendar's own count, 2,932,897 days of 86,400 seconds less one.

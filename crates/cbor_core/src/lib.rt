@@ -10,8 +10,6 @@ mod kind;
 pub mod laws;
 mod order;
 mod read;
-#[cfg(test)]
-mod tests;
 mod walk;
 mod writer;
 

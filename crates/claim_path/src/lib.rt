@@ -6,8 +6,6 @@ mod error;
 mod path;
 mod read;
 mod search;
-#[cfg(test)]
-mod tests;
 
 pub use collect::hits;
 pub use error::{Error, NoMemory};

@@ -3,10 +3,23 @@ use crate::{Error, Payload, Sign1};
 use base_forms::{from_hex, to_hex};
 use cbor_core::read_one;
 use claim_tree::Alg;
+use std::alloc::Global;
+use std::test::Fail;
+
+// The rule by which a message is refused, none where it is read.
+fn refusal(alloc: Global, hex: &str, awaited: Payload) -> Result<Option<u8>, Fail> {
+    let bytes = from_hex(alloc, hex)?;
+    let item = read_one(alloc, &bytes, 32)?;
+    match Sign1::read(alloc, item, awaited) {
+        Ok(_) => Ok(None),
+        Err(Error::Refused(rule)) => Ok(Some(rule)),
+        Err(error) => Err(error)?,
+    }
+}
 
 // Messages of each refusal, and of pairs of which the lesser wins.
 #[test]
-fn refusals(rt: HostRuntime) {
+fn refusals(rt: HostRuntime) -> Result<(), Fail> {
     let alloc = rt.alloc();
     for (hex, awaited, rule) in [
         ("00", Payload::Inside, 1),
@@ -36,18 +49,14 @@ fn refusals(rt: HostRuntime) {
         ("8443a10126a0f640", Payload::Inside, 5),
         ("8443a10126a0416140", Payload::Detached, 5),
     ] {
-        let bytes = from_hex(alloc, hex).expect(&rt, "hexadecimal");
-        let item = read_one(alloc, &bytes, 32).expect(&rt, "an item");
-        match Sign1::read(alloc, item, awaited) {
-            Ok(_) => assert!(rt; false, "{hex} is read"),
-            Err(error) => assert!(rt; error == Error::Refused(rule), "of {hex}"),
-        }
+        assert_eq!(rt; refusal(alloc, hex, awaited)?, Some(rule), "of {hex}");
     }
+    Ok(())
 }
 
 // The names of issuers, from the unprotected headers first. The certificate is `abc`, whose digest is that of FIPS 180-4.
 #[test]
-fn issuers(rt: HostRuntime) {
+fn issuers(rt: HostRuntime) -> Result<(), Fail> {
     let alloc = rt.alloc();
     let certified = "x5:ba7816bf8f01cfea414140de5dae2223b00361a396177a9cb410ff61f20015ad";
     for (hex, awaited, name) in [
@@ -85,32 +94,32 @@ fn issuers(rt: HostRuntime) {
         ("8443a10126a11821816161416140", Payload::Inside, "mkid:"),
         ("8443a10126a2044131182180416140", Payload::Inside, "mkid:31"),
     ] {
-        let bytes = from_hex(alloc, hex).expect(&rt, "hexadecimal");
-        let item = read_one(alloc, &bytes, 32).expect(&rt, "an item");
-        let message = Sign1::read(alloc, item, awaited).expect(&rt, "a signed message");
+        let bytes = from_hex(alloc, hex)?;
+        let item = read_one(alloc, &bytes, 32)?;
+        let message = Sign1::read(alloc, item, awaited)?;
         assert!(rt; message.alg() == Alg::Cose(-7), "of {hex}");
-        let issuer = message.issuer_name(alloc).expect(&rt, "a name");
+        let issuer = message.issuer_name(alloc)?;
         assert_eq!(rt; issuer.text(), name, "of {hex}");
     }
+    Ok(())
 }
 
 // The example of RFC 9052, appendix C.2.1, whose signature is over the bytes at the end.
 #[test]
-fn a_message_of_the_standard(rt: HostRuntime) {
+fn a_message_of_the_standard(rt: HostRuntime) -> Result<(), Fail> {
     let alloc = rt.alloc();
     let hex =
         "d28443a10126a10442313154546869732069732074686520636f6e74656e742e58408eb33e4ca31d1c465ab05aac34cc6b23d58fef5c083106c4d25a91aef0b0117e2af9a291aa32e14ab834dc56ed2a223444547e01f11d3b0916e5a4c345cacb36";
-    let bytes = from_hex(alloc, hex).expect(&rt, "hexadecimal");
-    let item = read_one(alloc, &bytes, 32).expect(&rt, "an item");
-    let message = Sign1::read(alloc, item, Payload::Inside).expect(&rt, "a signed message");
+    let bytes = from_hex(alloc, hex)?;
+    let item = read_one(alloc, &bytes, 32)?;
+    let message = Sign1::read(alloc, item, Payload::Inside)?;
     assert!(rt; message.payload() == Some(b"This is the content.".as_slice()));
     assert!(rt; message.signature().len() == 64);
-    let signed = message
-        .to_be_signed(alloc, b"This is the content.")
-        .expect(&rt, "bytes");
-    let written = to_hex(alloc, &signed).expect(&rt, "hexadecimal");
+    let signed = message.to_be_signed(alloc, b"This is the content.")?;
+    let written = to_hex(alloc, &signed)?;
     assert_eq!(rt;
         written.as_str(),
         "846a5369676e61747572653143a101264054546869732069732074686520636f6e74656e742e"
     );
+    Ok(())
 }

@@ -3,6 +3,7 @@ use super::memory_sink::MemorySink;
 use super::memory_store::MemoryStore;
 use super::real::{FileStore, cause_of, read_within};
 use super::{Failed, Sink, Status, Store, StoreError, put_all};
+use std::alloc::AllocError;
 use std::fs;
 use std::io::{self, ErrorKind, Read};
 use std::test::Fail;
@@ -27,6 +28,7 @@ fn reads_from_memory(rt: HostRuntime) -> Result<(), Fail> {
     for (name, limit, wanted) in reads {
         match store.read(alloc, name, limit) {
             Ok(bytes) => assert_eq!(rt; Ok(bytes.as_slice()), wanted),
+            Err(StoreError::NoMemory) => return Err(AllocError)?,
             Err(error) => assert_eq!(rt; wanted, Err(error)),
         }
     }
@@ -142,6 +144,7 @@ fn files_of_the_system(rt: HostRuntime) -> Result<(), Fail> {
     for (name, limit, wanted) in rows {
         match store.read(alloc, name, limit) {
             Ok(bytes) => assert_eq!(rt; Ok(bytes.as_slice()), wanted),
+            Err(StoreError::NoMemory) => return Err(AllocError)?,
             Err(error) => assert_eq!(rt; wanted, Err(error), "{name}"),
         }
     }

@@ -5,3 +5,5 @@
 mod credentials;
 #[cfg(test)]
 mod disclosures;
+#[cfg(test)]
+mod readings;

@@ -1,9 +1,8 @@
 // Which files runs ask for, and in which order.
-use crate::runs::words;
+use crate::runs::status_of;
 use outside::{MemorySink, MemoryStore, Status};
 use std::alloc::Global;
 use std::test::Fail;
-use wallet_top::run;
 
 const QUERY: &str =
     r#"{"credentials":[{"id":"a","format":"dc+sd-jwt","claims":[{"path":["given_name"]}]}]}"#;
@@ -31,9 +30,8 @@ fn stored(alloc: Global) -> Result<MemoryStore, Fail> {
 
 // Runs these words over the store; the names that are asked for, a blank after each.
 fn asked(alloc: Global, store: &mut MemoryStore, texts: &[&str]) -> Result<(Status, String), Fail> {
-    let words = words(alloc, texts)?;
     let mut out = MemorySink::new(alloc, 999)?;
-    let status = run(alloc, &words, store, &mut out);
+    let status = status_of(alloc, texts, store, &mut out)?;
     let mut names = String::new(alloc);
     for name in store.asked() {
         names.push_str(name.as_str())?;

@@ -1,9 +1,8 @@
 // Whole runs of `list` over forms in memory.
-use crate::runs::words;
+use crate::runs::status_of;
 use outside::{MemorySink, MemoryStore, Status};
 use std::alloc::Global;
 use std::test::Fail;
-use wallet_top::run;
 
 // The header of an issuer's message, {"alg":"ES256","typ":"dc+sd-jwt"}, and its payloads.
 const HEADER: &str = "eyJhbGciOiJFUzI1NiIsInR5cCI6ImRjK3NkLWp3dCJ9";
@@ -39,9 +38,8 @@ fn listed(
 ) -> Result<(Status, Vec<u8>), Fail> {
     store.put("q", query.as_bytes())?;
     store.put("w", wallet)?;
-    let words = words(alloc, &["list", "q", "w"])?;
     let mut out = MemorySink::new(alloc, 9999)?;
-    let status = run(alloc, &words, store, &mut out);
+    let status = status_of(alloc, &["list", "q", "w"], store, &mut out)?;
     Ok((status, Vec::from_slice(alloc, out.bytes())?))
 }
 

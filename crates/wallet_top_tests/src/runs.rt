@@ -1,12 +1,22 @@
 // What the tests share.
-use std::alloc::Global;
+use outside::{MemorySink, MemoryStore, Status};
+use std::alloc::{AllocError, Global};
 use std::test::Fail;
+use wallet_top::run;
 
-// The words of a command.
-pub fn words(alloc: Global, texts: &[&str]) -> Result<Vec<String>, Fail> {
+// How a run of these words ends, unless memory is wanting.
+pub fn status_of(
+    alloc: Global,
+    texts: &[&str],
+    store: &mut MemoryStore,
+    out: &mut MemorySink,
+) -> Result<Status, Fail> {
     let mut words = Vec::new(alloc);
     for text in texts {
         words.push(String::from_str(alloc, text)?)?;
     }
-    Ok(words)
+    match run(alloc, &words, store, out) {
+        Status::NoMemory => Err(AllocError)?,
+        status => Ok(status),
+    }
 }

@@ -1,9 +1,8 @@
 // Whole runs of `try` over forms in memory.
-use crate::runs::words;
+use crate::runs::status_of;
 use outside::{MemorySink, MemoryStore, Status};
 use std::alloc::Global;
 use std::test::Fail;
-use wallet_top::run;
 
 const QUERY: &str =
     r#"{"credentials":[{"id":"a","format":"dc+sd-jwt","claims":[{"path":["given_name"]}]}]}"#;
@@ -19,9 +18,8 @@ fn query_with(alloc: Global, members: &str) -> Result<String, Fail> {
 
 // Runs `try q t` over a store, with room for so many bytes.
 fn tried(alloc: Global, store: &mut MemoryStore, room: usize) -> Result<(Status, Vec<u8>), Fail> {
-    let words = words(alloc, &["try", "q", "t"])?;
     let mut out = MemorySink::new(alloc, room)?;
-    let status = run(alloc, &words, store, &mut out);
+    let status = status_of(alloc, &["try", "q", "t"], store, &mut out)?;
     Ok((status, Vec::from_slice(alloc, out.bytes())?))
 }
 
@@ -187,8 +185,8 @@ fn no_command(rt: HostRuntime) -> Result<(), Fail> {
     let alloc = rt.alloc();
     let mut store = MemoryStore::new(alloc);
     let mut out = MemorySink::new(alloc, 99)?;
-    let words = words(alloc, &["try", "q"])?;
-    assert_eq!(rt; run(alloc, &words, &mut store, &mut out), Status::Usage);
+    let status = status_of(alloc, &["try", "q"], &mut store, &mut out)?;
+    assert_eq!(rt; status, Status::Usage);
     assert_eq!(rt; out.bytes(), b"usage\n".as_slice());
     Ok(())
 }

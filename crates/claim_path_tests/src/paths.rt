@@ -1,31 +1,32 @@
+// Paths and values, and what they hit.
 ghost use Rattle.std.specs.Prelude.{◌≡◌, true, IfOk};
 ghost use Rattle.claim_tree.specs.Tree.{is_claim};
 ghost use Rattle.claim_tree.specs.Owned.{tree_of};
 
-use super::*;
-use claim_tree::{ClaimView, OwnedElement, OwnedNode, OwnedTree, PlainTree, Step};
+use claim_path::{Error, Path, Values, has_hit, hits};
+use claim_tree::{ClaimView, NoMemory, OwnedElement, OwnedNode, OwnedTree, PlainTree, Step};
 use serde_json::Value;
 use std::alloc::Global;
 use std::fmt::Write;
 use std::test::Fail;
 
 // The rule for which a path or values are refused, or none where they are read.
-fn refusal<T: Drop>(read: Result<T, Error>) -> Option<u8> {
+fn refusal<T: Drop>(read: Result<T, Error>) -> Result<Option<u8>, Fail> {
     match read {
-        Ok(_) => None,
-        Err(Error::Refused(rule)) => Some(rule),
-        Err(Error::NoMemory) => Some(0),
+        Ok(_) => Ok(None),
+        Err(Error::Refused(rule)) => Ok(Some(rule)),
+        Err(error) => Err(error)?,
     }
 }
 
 fn path_refusal(rt: &HostRuntime, text: &str) -> Result<Option<u8>, Fail> {
     let value = Value::from_str(rt.alloc(), text)?;
-    Ok(refusal(Path::from_json(rt.alloc(), &value)))
+    refusal(Path::from_json(rt.alloc(), &value))
 }
 
 fn values_refusal(rt: &HostRuntime, text: &str) -> Result<Option<u8>, Fail> {
     let value = Value::from_str(rt.alloc(), text)?;
-    Ok(refusal(Values::from_json(rt.alloc(), &value)))
+    refusal(Values::from_json(rt.alloc(), &value))
 }
 
 #[test]

@@ -1,18 +1,22 @@
+// Trees, and what is known of a credential.
 ghost use Rattle.std.specs.Prelude.{◌≡◌, true, IfOk};
 ghost use Rattle.claim_tree.specs.Tree.{is_claim};
 ghost use Rattle.claim_tree.specs.Owned.{tree_of};
 
-use super::*;
+use claim_tree::{
+    Address, ClaimNode, ClaimView, Error, Facts, Format, KeyName, Name, NoMemory, OwnedMember,
+    OwnedNode, OwnedTree, PlainTree, Shape, SignAlg, Step,
+};
 use std::alloc::Global;
 use std::fmt::Write;
 use std::test::Fail;
 
 // What stands at the root of the tree of a text, or the number of the refusal.
-fn root_shape(rt: &HostRuntime, text: &str) -> Result<Shape, u8> {
+fn root_shape(rt: &HostRuntime, text: &str) -> Result<Result<Shape, u8>, Fail> {
     match PlainTree::read(rt.alloc(), text) {
-        Ok(tree) => Ok(tree.root().shape()),
-        Err(Error::Refused(rule)) => Err(rule),
-        Err(Error::NoMemory) => Err(0),
+        Ok(tree) => Ok(Ok(tree.root().shape())),
+        Err(Error::Refused(rule)) => Ok(Err(rule)),
+        Err(error) => Err(error)?,
     }
 }
 
@@ -40,7 +44,7 @@ fn reads_texts(rt: HostRuntime) -> Result<(), Fail> {
         ("{", Err(1)),
     ];
     for (text, wanted) in table {
-        assert_eq!(rt; root_shape(&rt, text), wanted, "{text}");
+        assert_eq!(rt; root_shape(&rt, text)?, wanted, "{text}");
     }
     Ok(())
 }
