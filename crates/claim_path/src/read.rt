@@ -12,6 +12,12 @@ use json_forms::elements;
 use serde_json::Value;
 use std::alloc::Global;
 
+// The most steps of a path.
+const MOST_STEPS: usize = 16;
+
+// The most values of a claim.
+const MOST_VALUES: usize = 32;
+
 impl Path {
     /// The path that a JSON value is: a list of 1 to 16 steps, each a text, null or a whole number
     /// from 0 to 2^64 - 1.
@@ -79,7 +85,7 @@ pub fn path_rule(value: &Value) -> Option<u8>
         Some(2)
     } else if !are_steps(steps) {
         Some(3)
-    } else if steps.len() > 16 {
+    } else if steps.len() > MOST_STEPS {
         Some(4)
     } else {
         None
@@ -97,7 +103,7 @@ pub fn values_rule(value: &Value) -> Option<u8>
         Some(1)
     } else if !are_scalars(members) {
         Some(1)
-    } else if members.len() > 32 {
+    } else if members.len() > MOST_VALUES {
         Some(1)
     } else {
         None

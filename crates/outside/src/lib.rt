@@ -1,10 +1,12 @@
-//! What lies outside a program, as traits whose calls may fail: a store of named files and a sink for bytes.
+//! What lies outside a program: the words that it is called with and, as traits whose calls may fail, a store of named files and a
+//! sink for bytes.
 //!
 //! Each object counts its faults, so that a contract can say that a failure was answered only where the
 //! object failed. There are forms in memory, which tell all that they hold, and forms over the system,
 //! which tell nothing.
 #![tactic(auto)]
 
+mod arguments;
 mod error;
 mod memory_sink;
 mod memory_store;
@@ -13,6 +15,7 @@ mod sink;
 mod status;
 mod store;
 
+pub use arguments::words;
 pub use error::{Failed, NoMemory, StoreError};
 pub use memory_sink::MemorySink;
 pub use memory_store::MemoryStore;

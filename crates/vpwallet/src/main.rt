@@ -1,21 +1,10 @@
 //! The program `vpwallet`: the wallet over the files of the system and the standard output.
 #![tactic(auto)]
 
-use outside::{FileStore, OutSink, Status};
-use std::alloc::Global;
+use outside::{FileStore, OutSink, Status, words};
+use std::io;
 use std::process::ExitCode;
-use std::rt::Env;
-use std::{env, io};
 use wallet_top::run;
-
-// The words after the program's name.
-fn words(alloc: Global, rt: &(impl Env + AllocGlobal)) -> io::Result<Vec<String>> {
-    let mut words = Vec::new(alloc);
-    for word in env::args(rt)?.skip(1) {
-        words.push(word)?;
-    }
-    Ok(words)
-}
 
 fn main(rt: HostRuntime) -> ExitCode {
     let alloc = rt.alloc();
