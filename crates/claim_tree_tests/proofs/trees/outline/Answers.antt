@@ -2,7 +2,7 @@ use Rattle.std.proofs.Common.{◌≡◌, length, arith, refl, sym, ◌∙◌}
 use Rattle.claim_tree.specs.Tree.{Tree, Text, Whole, Truth, Null, Bytes, Other, ListOf, RecordOf, parts, names, shape_of}
 use Rattle.claim_tree.specs.declared.shape.Shape.TheVariants.{Record}
 use Rattle.claim_tree.proofs.Trees.{length-marks, length-member_names}
-use Rattle.claim_tree.proofs.tests.outline.Goals as goal
+use Rattle.claim_tree_tests.proofs.trees.outline.Goals as goal
 
 -- each part of a record has its name
 length-names : (t : Tree) → shape_of t ≡ Record → length (names t) ≡ length (parts t)
