@@ -5,3 +5,4 @@ pub mod Real
 pub mod Sink
 pub mod Status
 pub mod Store
+pub mod Words

@@ -2,7 +2,7 @@
 use super::memory_sink::MemorySink;
 use super::memory_store::MemoryStore;
 use super::real::{FileStore, cause_of, read_within};
-use super::{Failed, Sink, Status, Store, StoreError, put_all};
+use super::{Failed, Sink, Status, Store, StoreError, put_all, words};
 use std::alloc::AllocError;
 use std::fs;
 use std::io::{self, ErrorKind, Read};
@@ -168,4 +168,31 @@ fn statuses(rt: HostRuntime) {
     ] {
         assert_eq!(rt; status.code(), code);
     }
+}
+
+#[test]
+fn words_of_programs(rt: HostRuntime) -> Result<(), Fail> {
+    let alloc = rt.alloc();
+    let rows: [&[&str]; 4] = [
+        &[],
+        &["vpwallet"],
+        &["vpwallet", "list"],
+        &["", "vpwallet", "", "a b", "vpwallet", ""],
+    ];
+    for row in rows {
+        let mut arguments = Vec::new(alloc);
+        for argument in row {
+            arguments.push(String::from_str(alloc, argument)?)?;
+        }
+        let words = words(alloc, Ok(arguments.into_iter()))?;
+        assert_eq!(rt; words.len(), row.len().saturating_sub(1));
+        for (word, wanted) in words.iter().zip(row.iter().skip(1)) {
+            assert_eq!(rt; word.as_str(), *wanted);
+        }
+    }
+    let no_text = words(alloc, Err(io::Error::from(ErrorKind::InvalidData)))?;
+    assert!(rt; no_text.is_empty());
+    let no_memory = words(alloc, Err(io::Error::from(ErrorKind::OutOfMemory)));
+    assert!(rt; no_memory.is_err());
+    Ok(())
 }

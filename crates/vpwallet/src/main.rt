@@ -2,19 +2,14 @@
 #![tactic(auto)]
 
 use outside::{FileStore, OutSink, Status, words};
-use std::io;
+use std::env;
 use std::process::ExitCode;
 use wallet_top::run;
 
 fn main(rt: HostRuntime) -> ExitCode {
     let alloc = rt.alloc();
-    let words = match words(alloc, &rt) {
-        Ok(words) => words,
-        Err(error) if error.kind() == io::ErrorKind::OutOfMemory => {
-            return ExitCode::from(Status::NoMemory.code());
-        }
-        // Words that are not UTF-8 are no command.
-        Err(_) => Vec::new(alloc),
+    let Ok(words) = words(alloc, env::args(&rt)) else {
+        return ExitCode::from(Status::NoMemory.code());
     };
     let mut store = FileStore::new(rt);
     let mut out = OutSink::new(rt);
