@@ -11,6 +11,10 @@ use Rattle.cbor_core.specs.declared.head.TheConstants.{MAX_DEPTH}
 use Rattle.cbor_core.specs.Head.{head_at}
 use Rattle.cbor_core.specs.Item.{Reader, item_at}
 
+-- an item, by its own bytes
+abbrev pub Span : Type 0
+Span = List ℕ
+
 abbrev pub on_ok : {A B : Type 0} → Result A Fault → (A → B) → B → B
 on_ok (Ok x) f d = f x
 on_ok (Err e) f d = d
@@ -111,6 +115,10 @@ kind_by head.Break back = kind.Other
 
 unfoldable pub kind_of : List ℕ → Kind
 kind_of bytes = by_head kind_by kind.Other bytes
+
+abbrev pub is_map : Kind → Bool
+is_map kind.Map = true
+is_map _ = false
 
 abbrev pub list_by : Head → List ℕ → List ℕ
 list_by (head.List (Some n)) back = back

@@ -10,14 +10,10 @@ use Rattle.rule_tables.specs.Rules.{rule, first}
 use Rattle.cbor_core.specs.declared.kind.Kind.{Kind}
 use Rattle.cbor_core.specs.declared.kind.Kind.TheVariants as kind
 use Rattle.cbor_core.specs.Rules.{broken_rule}
-use Rattle.cbor_core.specs.Views.{kind_of, whole_of, bytes_of, tag_of, items_of, entries_of}
+use Rattle.cbor_core.specs.Views.{Span, is_map, kind_of, whole_of, bytes_of, tag_of, items_of, entries_of}
 use Rattle.cbor_core.specs.Writing.{head_bytes, text_bytes, byte_string_bytes}
 use Rattle.cose_sign1.specs.declared.payload.Payload.{Payload}
 use Rattle.cose_sign1.specs.declared.payload.Payload.TheVariants.{Inside, Detached}
-
--- an item's own bytes
-abbrev pub Span : Type 0
-Span = List ℕ
 
 -- the entries of a map of headers, each label with its value
 abbrev pub Headers : Type 0
@@ -34,10 +30,6 @@ pub record Message : Type 0 where
 -- what stands under tag 18, or the item itself
 abbrev pub untagged : Span → Span
 untagged item = elim (tag_of item) [ None ↦ item | Some t ↦ if t.0 == 18 then t.1 else item ]
-
-abbrev pub is_map : Kind → Bool
-is_map kind.Map = true
-is_map _ = false
 
 abbrev pub is_null : Kind → Bool
 is_null kind.Null = true

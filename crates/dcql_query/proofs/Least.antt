@@ -7,7 +7,7 @@ use Rattle.std.specs.List.{flat_map}
 use Rattle.serde_json.specs.Data.{Data}
 use Rattle.serde_json.specs.Find.{get}
 use Rattle.rule_tables.specs.Rules.{rule, first, least, lowest}
-use Rattle.rule_tables.proofs.Lowest.{IsWithin, lowest-none, row, last, table, alone, joined, parts, least_is_lowest, least_within}
+use Rattle.rule_tables.proofs.Lowest.{IsWithin, lowest-none, rule_before, last, table, alone, joined, parts, least_is_lowest, least_within}
 use Rattle.json_forms.specs.Look.{is_empty, text_at, elements_at, is_wrong}
 use Rattle.dcql_query.specs.Ids.{all_have_right_ids, are_right_ids, all_have_ids, has_equal_ids, knows_all_lists}
 use Rattle.dcql_query.specs.Table.{is_wrong_path, is_two_names, are_right_values, is_bool, is_meta, is_object_list, is_set_list, is_credential_set_list, knows_all_options, claim_rule, has_format, credential_rule, query_rule}
@@ -15,7 +15,7 @@ use Rattle.dcql_query.specs.Broken.{broken_by_claim, broken_by_credential, broke
 
 claim_gives : (document : Bool) (c : Data) → (claim_rule document c ≡ lowest (broken_by_claim document c)) × IsWithin 14 16 (claim_rule document c)
 claim_gives document c =
-    let t = row 14 (is_wrong_path (get (codes "path") c)) (row 15 (document && not (is_two_names (get (codes "path") c))) (last 16 (is_wrong are_right_values (get (codes "values") c))) (omega arith)) (omega arith) in
+    let t = rule_before 14 (is_wrong_path (get (codes "path") c)) (rule_before 15 (document && not (is_two_names (get (codes "path") c))) (last 16 (is_wrong are_right_values (get (codes "values") c))) (omega arith)) (omega arith) in
     (t.is_lowest, t.within)
 
 credential_gives : (q : Data) → (credential_rule q ≡ lowest (broken_by_credential q)) × IsWithin 5 20 (credential_rule q)
@@ -24,20 +24,20 @@ credential_gives q =
     let document = has_format (codes "mso_mdoc") q in
     let each = parts (claim_rule document) (broken_by_claim document) 14 16 (omega arith) (λ c. (claim_gives document c).0) (λ c. (claim_gives document c).1) claims in
     let header =
-    row 5 (is_none (text_at (codes "format") q))
-    (row 6 (is_wrong is_bool (get (codes "multiple") q))
-    (row 7 (is_wrong is_bool (get (codes "require_cryptographic_holder_binding") q))
-    (row 8 (is_some (get (codes "trusted_authorities") q))
+    rule_before 5 (is_none (text_at (codes "format") q))
+    (rule_before 6 (is_wrong is_bool (get (codes "multiple") q))
+    (rule_before 7 (is_wrong is_bool (get (codes "require_cryptographic_holder_binding") q))
+    (rule_before 8 (is_some (get (codes "trusted_authorities") q))
     (last 9 (is_wrong (is_meta q) (get (codes "meta") q))) (omega arith)) (omega arith)) (omega arith)) (omega arith) in
     let of_claims =
-    row 10 (is_wrong is_object_list (get (codes "claims") q))
-    (row 11 (nat_lt 64 (length claims))
-    (row 12 (not (are_right_ids claims))
-    (row 13 (has_equal_ids claims) each (omega arith)) (omega arith)) (omega arith)) (omega arith) in
+    rule_before 10 (is_wrong is_object_list (get (codes "claims") q))
+    (rule_before 11 (nat_lt 64 (length claims))
+    (rule_before 12 (not (are_right_ids claims))
+    (rule_before 13 (has_equal_ids claims) each (omega arith)) (omega arith)) (omega arith)) (omega arith) in
     let of_sets =
-    row 17 (is_wrong (is_set_list q) (get (codes "claim_sets") q))
-    (row 18 (nat_lt 32 (length (elements_at (codes "claim_sets") q)))
-    (row 19 (is_some (get (codes "claim_sets") q) && not (all_have_ids claims))
+    rule_before 17 (is_wrong (is_set_list q) (get (codes "claim_sets") q))
+    (rule_before 18 (nat_lt 32 (length (elements_at (codes "claim_sets") q)))
+    (rule_before 19 (is_some (get (codes "claim_sets") q) && not (all_have_ids claims))
     (last 20 (not (knows_all_lists claims (elements_at (codes "claim_sets") q)))) (omega arith)) (omega arith)) (omega arith) in
     let t = table header (table of_claims (alone of_sets) (omega arith)) (omega arith) in
     (t.is_lowest, t.within)
@@ -46,16 +46,16 @@ credential_gives q =
 pub query_rule-lowest : (d : Data) → query_rule d ≡ lowest (broken_by d)
 query_rule-lowest d =
     let queries = elements_at (codes "credentials") d in
-    let sets = row 21 (is_wrong is_credential_set_list (get (codes "credential_sets") d))
+    let sets = rule_before 21 (is_wrong is_credential_set_list (get (codes "credential_sets") d))
     (last 22 (not (knows_all_options queries (elements_at (codes "credential_sets") d)))) (omega arith) in
     let each = joined (least (map credential_rule queries)) (flat_map broken_by_credential queries) 5 20
     (least_is_lowest credential_rule broken_by_credential (λ q. (credential_gives q).0) queries)
     (least_within credential_rule 5 20 (λ q. (credential_gives q).1) queries) (omega arith) sets (omega arith) in
     let t =
-    row 1 (is_empty queries)
-    (row 2 (nat_lt 16 (length queries))
-    (row 3 (not (all_have_right_ids queries))
-    (row 4 (has_equal_ids queries) each (omega arith)) (omega arith)) (omega arith)) (omega arith) in
+    rule_before 1 (is_empty queries)
+    (rule_before 2 (nat_lt 16 (length queries))
+    (rule_before 3 (not (all_have_right_ids queries))
+    (rule_before 4 (has_equal_ids queries) each (omega arith)) (omega arith)) (omega arith)) (omega arith) in
     t.is_lowest
 
 -- where no rule is answered none is broken

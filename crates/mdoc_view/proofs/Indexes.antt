@@ -9,8 +9,8 @@ use Rattle.std.proofs.lemmas.Bool.Decides.{nat_tests}
 use Rattle.std.proofs.lemmas.Map.Text.{is_eq-slice_cmp}
 use Rattle.cbor_core.specs.declared.item.Item.{Item}
 use Rattle.cbor_core.specs.Seen.{span_of}
-use Rattle.cbor_core.specs.Views.{bytes_of, utf8_text_of}
-use Rattle.mdoc_view.specs.Looks.{Span, Utf8, natural_of}
+use Rattle.cbor_core.specs.Views.{Span, bytes_of, utf8_text_of}
+use Rattle.mdoc_view.specs.Looks.{Utf8, natural_of}
 use Rattle.mdoc_view.specs.Digests.{is_named, is_numbered}
 use Rattle.mdoc_view.specs.Index.{seek, look}
 

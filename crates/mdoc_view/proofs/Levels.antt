@@ -1,8 +1,7 @@
 -- The tree of an item by one level.
 use Rattle.std.proofs.Common.{◌≡◌, ℕ, zero, suc, ◌-◌, ◌<◌, sym, ap₂, arith}
 use Rattle.cbor_core.specs.declared.kind.Kind.{Kind}
-use Rattle.cbor_core.specs.Views.{kind_of}
-use Rattle.mdoc_view.specs.Looks.{Span}
+use Rattle.cbor_core.specs.Views.{Span, kind_of}
 use Rattle.mdoc_view.specs.Value.{tree_by, value_at}
 
 pub value_by : (n : ℕ) (item : Span) (k : Kind) → 0 < n → kind_of item ≡ k → tree_by (value_at (n - 1)) k item ≡ value_at n item

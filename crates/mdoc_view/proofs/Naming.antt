@@ -5,8 +5,8 @@ use Rattle.std.proofs.lemmas.Str.{is_utf8-from_IsUtf8}
 use Rattle.std.proofs.lemmas.Slice.Eq.{bytes_eq-Decides}
 use Rattle.std.specs.Option.{option_or, option_map_or}
 use Rattle.std.specs.Str.{bytes_eq, is_utf8}
-use Rattle.cbor_core.specs.Views.{text_of, utf8_text_of, if_utf8, is_text, find_in}
-use Rattle.mdoc_view.specs.Looks.{Span, Utf8, Entries}
+use Rattle.cbor_core.specs.Views.{Span, text_of, utf8_text_of, if_utf8, is_text, find_in}
+use Rattle.mdoc_view.specs.Looks.{Utf8, Entries}
 use Rattle.mdoc_view.specs.Digests.{is_named}
 use Rattle.mdoc_view.specs.Members.{or_named}
 

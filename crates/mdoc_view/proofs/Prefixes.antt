@@ -1,7 +1,7 @@
 -- Lists that are read one by one.
 use Rattle.std.proofs.Common.{◌≡◌, List, [], ◌∷◌, ◌++◌, map, Option, Some, None, option_map, option_and_then, refl, sym, ap, ◌∙◌, append_assoc}
 use Rattle.std.proofs.lemmas.List.{map-append}
-use Rattle.mdoc_view.specs.Prefixed.{prefixed}
+use Rattle.claim_tree.specs.Prefixed.{prefixed}
 
 -- one more was read, with the others after it
 pub one_more : {A X : Type 0} (f : A → X) (xs ys : List A) (x : A) (o : Option (List X)) → ys ≡ xs ++ x ∷ [] → prefixed (map f ys) o ≡ prefixed (map f xs) (option_map (λ zs. f x ∷ zs) o)

@@ -6,7 +6,7 @@ use Rattle.cbor_core.specs.declared.error.Error.TheVariants as their
 use Rattle.cbor_core.specs.Refusal.{IsRefusal as TheirRefusal}
 use Rattle.cbor_core.specs.Rules.{broken_rule}
 use Rattle.cose_sign1.specs.Sign1.{Message, message_in}
-use Rattle.mdoc_view.specs.Looks.{Span}
+use Rattle.cbor_core.specs.Views.{Span}
 use Rattle.mdoc_view.specs.Issued.{Issued, issued_in}
 use Rattle.mdoc_view.specs.Reading.{credential_by, credential_in}
 use Rattle.mdoc_view.specs.Refusal.{refusal_of, refusal_by, refusal_of_issued}

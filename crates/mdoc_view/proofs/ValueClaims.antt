@@ -9,8 +9,8 @@ use Rattle.claim_tree.specs.Parts.{elements_of, members_of}
 use Rattle.claim_tree.specs.Search.{below}
 use Rattle.cbor_core.specs.declared.kind.Kind.{Kind}
 use Rattle.cbor_core.specs.declared.kind.Kind.TheVariants as kind
-use Rattle.cbor_core.specs.Views.{kind_of, whole_of, bytes_of, utf8_text_of, truth_of, tag_of, items_of, entries_of}
-use Rattle.mdoc_view.specs.Looks.{Span, Utf8, Entries}
+use Rattle.cbor_core.specs.Views.{Span, kind_of, whole_of, bytes_of, utf8_text_of, truth_of, tag_of, items_of, entries_of}
+use Rattle.mdoc_view.specs.Looks.{Utf8, Entries}
 use Rattle.mdoc_view.specs.Items.{Signed, Namespace}
 use Rattle.mdoc_view.specs.Value.{Valued, placed, in_order, rise, marked, record_of, named_values, plain_parts, list_tree, tree_by, value_at, value_of, namespace_tree, document_tree}
 use Rattle.mdoc_view.proofs.InOrder.{by_name, Strict, strict_from_rise}

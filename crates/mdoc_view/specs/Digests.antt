@@ -4,8 +4,8 @@ use Rattle.std.specs.Prelude.{ℕ, ◌==◌, Bool, false, ◌&&◌, List, [], �
 use Rattle.std.specs.Option.{option_map_or, option_or}
 use Rattle.std.specs.List.{list_all}
 use Rattle.std.specs.Str.{bytes_eq}
-use Rattle.cbor_core.specs.Views.{kind_of, bytes_of, utf8_text_of, entries_of}
-use Rattle.mdoc_view.specs.Looks.{Span, Utf8, Entries, is_map, natural_of}
+use Rattle.cbor_core.specs.Views.{Span, is_map, kind_of, bytes_of, utf8_text_of, entries_of}
+use Rattle.mdoc_view.specs.Looks.{Utf8, Entries, natural_of}
 
 -- ---- the form: a map from texts to maps from numbers that are not negative to byte strings
 

@@ -6,7 +6,8 @@ use Rattle.std.specs.Ordering.{nat_cmp}
 use Rattle.std.specs.Cmp.Lexicographic.{slice_cmp}
 use Rattle.cbor_core.specs.declared.item.Item.{Item}
 use Rattle.cbor_core.specs.Seen.{span_of}
-use Rattle.mdoc_view.specs.Looks.{Span, Utf8}
+use Rattle.cbor_core.specs.Views.{Span}
+use Rattle.mdoc_view.specs.Looks.{Utf8}
 
 -- the item under a name
 abbrev pub seek : Utf8 → BTreeMap (Bor (List ℕ)) Item → Option Span

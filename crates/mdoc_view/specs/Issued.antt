@@ -1,8 +1,8 @@
 -- `IssuerSigned` (ISO/IEC 18013-5, section 8.3.2.1.2.2): the signed items of each namespace, and the issuer's signature.
 use Rattle.std.specs.Prelude.{Bool, ◌&&◌, [], codes, Option, Some, None, option_map, option_and_then, is_some, if◌then◌else◌}
 use Rattle.std.specs.List.{list_all}
-use Rattle.cbor_core.specs.Views.{kind_of, utf8_text_of, items_of, entries_of, find_in}
-use Rattle.mdoc_view.specs.Looks.{Span, Entries, is_map, is_list, embedded}
+use Rattle.cbor_core.specs.Views.{Span, is_map, kind_of, utf8_text_of, items_of, entries_of, find_in}
+use Rattle.mdoc_view.specs.Looks.{Entries, is_list, embedded}
 
 pub record Issued : Type 0 where
   pub namespaces : Entries

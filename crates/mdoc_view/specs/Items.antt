@@ -7,8 +7,8 @@ use Rattle.rule_tables.specs.Rules.{rule, first}
 use Rattle.distinct_texts.specs.Texts.{differ}
 use Rattle.base_forms.specs.Hash.{digest_by}
 use Rattle.base_forms.specs.declared.hash.HashName.{HashName}
-use Rattle.cbor_core.specs.Views.{utf8_text_of, items_of, find_in}
-use Rattle.mdoc_view.specs.Looks.{Span, Utf8, Entries, text_at, natural_at, bytes_at, one_map, embedded}
+use Rattle.cbor_core.specs.Views.{Span, utf8_text_of, items_of, find_in}
+use Rattle.mdoc_view.specs.Looks.{Utf8, Entries, text_at, natural_at, bytes_at, one_map, embedded}
 use Rattle.mdoc_view.specs.Digests.{digest_at}
 
 -- an item: its whole encoding with its tag 24, the number of its digest, its element's name and value

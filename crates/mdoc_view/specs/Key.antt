@@ -9,9 +9,9 @@ use Rattle.std.specs.BTreeMap.{insert_entry}
 use Rattle.base_forms.specs.Base16.{hex_of}
 use Rattle.cbor_core.specs.declared.kind.Kind.{Kind}
 use Rattle.cbor_core.specs.declared.kind.Kind.TheVariants as kind
-use Rattle.cbor_core.specs.Views.{kind_of, whole_of, bytes_of, utf8_text_of, truth_of, entries_of, find_in}
+use Rattle.cbor_core.specs.Views.{Span, is_map, kind_of, whole_of, bytes_of, utf8_text_of, truth_of, entries_of, find_in}
 use Rattle.cbor_core.specs.Writing.{head_bytes, whole_bytes, text_bytes, byte_string_bytes, truth_bytes, pairs_bytes}
-use Rattle.mdoc_view.specs.Looks.{Span, Entries, is_map}
+use Rattle.mdoc_view.specs.Looks.{Entries}
 
 abbrev pub device_key_in : Entries → Option Span
 device_key_in entries = option_and_then (λ info. find_in (codes "deviceKey") (entries_of info)) (find_in (codes "deviceKeyInfo") entries)

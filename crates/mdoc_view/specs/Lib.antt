@@ -7,7 +7,6 @@ pub mod Key
 pub mod Pairs
 pub mod Items
 pub mod Members
-pub mod Prefixed
 pub mod Parts
 pub mod Value
 pub mod Valued

@@ -3,11 +3,7 @@ use Rattle.std.specs.Prelude.{ℕ, ℤ, pos, negsuc, ◌==◌, Bool, true, false
 use Rattle.cbor_core.specs.declared.kind.Kind.{Kind}
 use Rattle.cbor_core.specs.declared.kind.Kind.TheVariants as kind
 use Rattle.cbor_core.specs.Rules.{broken_rule}
-use Rattle.cbor_core.specs.Views.{kind_of, whole_of, bytes_of, utf8_text_of, tag_of, entries_of, find_in}
-
--- an item, by its own bytes
-abbrev pub Span : Type 0
-Span = List ℕ
+use Rattle.cbor_core.specs.Views.{Span, is_map, kind_of, whole_of, bytes_of, utf8_text_of, tag_of, entries_of, find_in}
 
 -- a text, by its bytes
 abbrev pub Utf8 : Type 0
@@ -16,10 +12,6 @@ Utf8 = List ℕ
 -- the entries of a map, each key with its value; an item that is no map has none
 abbrev pub Entries : Type 0
 Entries = List (Span × Span)
-
-abbrev pub is_map : Kind → Bool
-is_map kind.Map = true
-is_map _ = false
 
 abbrev pub is_list : Kind → Bool
 is_list kind.List = true

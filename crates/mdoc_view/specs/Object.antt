@@ -5,8 +5,8 @@ use Rattle.std.specs.Str.{bytes_eq}
 use Rattle.rule_tables.specs.Rules.{rule, first}
 use Rattle.base_forms.specs.Hash.{mso_hash_named}
 use Rattle.base_forms.specs.Tdate.{tdate_of}
-use Rattle.cbor_core.specs.Views.{utf8_text_of, tag_of, find_in}
-use Rattle.mdoc_view.specs.Looks.{Span, Utf8, Entries, text_at, map_at, is_one, one_map, embedded}
+use Rattle.cbor_core.specs.Views.{Span, utf8_text_of, tag_of, find_in}
+use Rattle.mdoc_view.specs.Looks.{Utf8, Entries, text_at, map_at, is_one, one_map, embedded}
 use Rattle.mdoc_view.specs.Digests.{digests_of}
 use Rattle.mdoc_view.specs.Key.{device_key_in, is_key}
 

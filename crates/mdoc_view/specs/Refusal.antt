@@ -7,7 +7,8 @@ use Rattle.base_forms.specs.declared.hash.HashName.TheVariants.{Sha256}
 use Rattle.cbor_core.specs.Rules.{broken_rule}
 use Rattle.cose_sign1.specs.declared.payload.Payload.TheVariants.{Inside}
 use Rattle.cose_sign1.specs.Sign1.{message_in, sign1_rule}
-use Rattle.mdoc_view.specs.Looks.{Span, Entries}
+use Rattle.cbor_core.specs.Views.{Span}
+use Rattle.mdoc_view.specs.Looks.{Entries}
 use Rattle.mdoc_view.specs.Issued.{Issued, issued_in}
 use Rattle.mdoc_view.specs.Object.{Object, object_in, object_rule}
 use Rattle.mdoc_view.specs.Items.{Namespace, all_namespaces, item_count, most_items, digests_rule}

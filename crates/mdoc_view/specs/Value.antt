@@ -7,8 +7,8 @@ use Rattle.claim_tree.specs.Tree.{Tree, Text, Whole, Truth, Null, Bytes, Other, 
 use Rattle.claim_tree.specs.Parts.{Part, Named, elements_of, members_of}
 use Rattle.cbor_core.specs.declared.kind.Kind.{Kind}
 use Rattle.cbor_core.specs.declared.kind.Kind.TheVariants as kind
-use Rattle.cbor_core.specs.Views.{kind_of, whole_of, bytes_of, utf8_text_of, truth_of, tag_of, items_of, entries_of}
-use Rattle.mdoc_view.specs.Looks.{Span, Utf8, Entries}
+use Rattle.cbor_core.specs.Views.{Span, kind_of, whole_of, bytes_of, utf8_text_of, truth_of, tag_of, items_of, entries_of}
+use Rattle.mdoc_view.specs.Looks.{Utf8, Entries}
 use Rattle.mdoc_view.specs.Items.{Signed, Namespace}
 
 -- ---- records

@@ -1,8 +1,8 @@
 // Looking into the maps of a document.
 ghost use Rattle.std.specs.Prelude.{◌≡◌, IfOk, option_map};
 ghost use Rattle.cbor_core.specs.Seen.{span_of};
-ghost use Rattle.cbor_core.specs.Views.{kind_of, entries_of};
-ghost use Rattle.mdoc_view.specs.Looks.{is_map, is_list, natural_of, map_of, text_at, map_at, one_map, embedded};
+ghost use Rattle.cbor_core.specs.Views.{is_map, kind_of, entries_of};
+ghost use Rattle.mdoc_view.specs.Looks.{is_list, natural_of, map_of, text_at, map_at, one_map, embedded};
 
 use crate::error::NoMemory;
 use cbor_core::{Item, Kind, read_one};

@@ -71,9 +71,9 @@ joined r ns low mid {rs = rs} {ms = ms} {next = next} {high = high} e w o b h =
     }
 
 -- a rule, and then the rest of its table
-pub row : (n : ℕ) (b : Bool) {rs : List (Option ℕ)} {ms : List ℕ} {next high : ℕ}
+pub rule_before : (n : ℕ) (b : Bool) {rs : List (Option ℕ)} {ms : List ℕ} {next high : ℕ}
     → Gives rs ms next high → n ≤ next → Gives (rule n b ∷ rs) (broken n b ++ ms) n high
-row n b rest h = joined (rule n b) (broken n b) n n (rule_is_lowest n b) (rule_within n b) (omega arith) rest h
+rule_before n b rest h = joined (rule n b) (broken n b) n n (rule_is_lowest n b) (rule_within n b) (omega arith) rest h
 
 -- a table, and then the rest of a table
 pub table : {ts : List (Option ℕ)} {ns : List ℕ} {low mid : ℕ} {rs : List (Option ℕ)} {ms : List ℕ} {next high : ℕ}

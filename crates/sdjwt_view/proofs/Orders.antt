@@ -16,7 +16,7 @@ use Rattle.claim_tree.specs.Plain.{plain_members as plain_fields}
 use Rattle.claim_tree.specs.Parts.{Named}
 use Rattle.claim_tree.specs.Search.{names_of, below}
 use Rattle.distinct_texts.specs.Texts.{is_among}
-use Rattle.sdjwt_view.specs.Prefixed.{prefixed}
+use Rattle.claim_tree.specs.Prefixed.{prefixed}
 use Rattle.sdjwt_view.specs.Spelling.{left_out, plain_members}
 
 abbrev field_names : Fields → List Name

@@ -9,7 +9,7 @@ use Rattle.claim_tree.specs.Tree.{Tree, ListOf}
 use Rattle.distinct_texts.specs.Texts.{Utf8, is_among}
 use Rattle.sdjwt_view.specs.Disclosures.{Disclosed}
 use Rattle.claim_tree.specs.Owned.{tree_of, part_of}
-use Rattle.sdjwt_view.specs.Prefixed.{prefixed}
+use Rattle.claim_tree.specs.Prefixed.{prefixed}
 use Rattle.claim_tree.specs.Parts.{Named, elements_of}
 use Rattle.sdjwt_view.specs.Spelling.{has_placeholder, left_out, spelled, spelled_list, spelled_record, spelled_elements, plain_members}
 use Rattle.claim_tree.specs.declared.owned.OwnedElement.{OwnedElement}

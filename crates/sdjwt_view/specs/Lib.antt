@@ -8,7 +8,6 @@ pub mod Nodes
 pub mod Said
 pub mod Named
 pub mod Held
-pub mod Prefixed
 pub mod Tabled
 pub mod Placed
 pub mod Refusal

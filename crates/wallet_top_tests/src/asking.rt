@@ -1,5 +1,5 @@
 // Which files runs ask for, and in which order.
-use crate::runs::status_of;
+use crate::runs::{repeated, status_of};
 use outside::{MemorySink, MemoryStore, Status};
 use std::alloc::Global;
 use std::test::Fail;
@@ -10,21 +10,22 @@ const QUERY: &str =
 // A store with a query, a query that breaks a rule, trees, wallets and two files of which neither is a credential. One wallet
 // names a file that is not there, and one a file that is too long.
 fn stored(alloc: Global) -> Result<MemoryStore, Fail> {
-    let mut long = Vec::new(alloc);
-    for _ in 0..262_145 {
-        long.push(b'.')?;
-    }
     let mut store = MemoryStore::new(alloc);
-    store.put("q", QUERY.as_bytes())?;
-    store.put("broken", b"{}")?;
-    store.put("t", b"{}\n")?;
-    store.put("x", b"x")?;
-    store.put("y", b"y")?;
-    store.put("long", &long)?;
-    store.put("w", b"dc+sd-jwt x\nmso_mdoc y\ndc+sd-jwt x")?;
-    store.put("gap", b"dc+sd-jwt x\ndc+sd-jwt none\ndc+sd-jwt y")?;
-    store.put("past", b"dc+sd-jwt long\ndc+sd-jwt y")?;
-    store.put("empty", b"")?;
+    let files: [(&str, &[u8]); 9] = [
+        ("q", QUERY.as_bytes()),
+        ("broken", b"{}"),
+        ("t", b"{}\n"),
+        ("x", b"x"),
+        ("y", b"y"),
+        ("w", b"dc+sd-jwt x\nmso_mdoc y\ndc+sd-jwt x"),
+        ("gap", b"dc+sd-jwt x\ndc+sd-jwt none\ndc+sd-jwt y"),
+        ("past", b"dc+sd-jwt long\ndc+sd-jwt y"),
+        ("empty", b""),
+    ];
+    for (name, bytes) in files {
+        store.put(name, bytes)?;
+    }
+    store.put("long", &repeated(alloc, b".", 262_145)?)?;
     Ok(store)
 }
 

@@ -20,3 +20,12 @@ pub fn status_of(
         status => Ok(status),
     }
 }
+
+// The same line so many times.
+pub fn repeated(alloc: Global, line: &[u8], count: usize) -> Result<Vec<u8>, Fail> {
+    let mut lines = Vec::new(alloc);
+    for _ in 0..count {
+        lines.extend_from_slice(line)?;
+    }
+    Ok(lines)
+}

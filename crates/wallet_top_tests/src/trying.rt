@@ -1,5 +1,5 @@
 // Whole runs of `try` over forms in memory.
-use crate::runs::status_of;
+use crate::runs::{repeated, status_of};
 use outside::{MemorySink, MemoryStore, Status};
 use std::alloc::Global;
 use std::test::Fail;
@@ -39,48 +39,46 @@ fn padded(alloc: Global, size: usize) -> Result<Vec<u8>, Fail> {
     Ok(bytes)
 }
 
-fn lines(alloc: Global, count: usize) -> Result<Vec<u8>, Fail> {
-    let mut bytes = Vec::new(alloc);
-    for _ in 0..count {
-        bytes.extend_from_slice(b"0\n")?;
+#[test]
+fn trees(rt: HostRuntime) -> Result<(), Fail> {
+    let alloc = rt.alloc();
+    let full = repeated(alloc, b"0\n", 1024)?;
+    let too_many = repeated(alloc, b"0\n", 1025)?;
+    let rows: [(&[u8], Status, &str); 9] = [
+        (TREES.as_bytes(), Status::Done, MATCHES),
+        (b"", Status::NoOption, "none\n"),
+        (b"0\r\n", Status::NoOption, "none\n"),
+        (b"{}\n{\"given_name\":1}", Status::Done, "match 1\nend\n"),
+        (
+            b"{\"given_name\":1}\n{",
+            Status::FileRefused,
+            "file refused t 2\n",
+        ),
+        (b"0\n\n", Status::FileRefused, "file refused t 2\n"),
+        (b"0\n\xff", Status::FileRefused, "file refused t 1\n"),
+        (&full, Status::NoOption, "none\n"),
+        (&too_many, Status::FileRefused, "file refused t 1025\n"),
+    ];
+    for (trees, status, text) in rows {
+        let mut store = stored(alloc, QUERY, trees)?;
+        let (got, bytes) = tried(alloc, &mut store, 99)?;
+        assert_eq!(rt; got, status, "{text}");
+        assert_eq!(rt; bytes.as_slice(), text.as_bytes());
     }
-    Ok(bytes)
+    Ok(())
 }
 
 #[test]
-fn runs(rt: HostRuntime) -> Result<(), Fail> {
+fn queries(rt: HostRuntime) -> Result<(), Fail> {
     let alloc = rt.alloc();
     let two_names = query_with(alloc, r#""claims":[{"path":["a","b"]}]"#)?;
     let two_sets = query_with(
         alloc,
         r#""claims":[{"id":"x","path":["x"]},{"id":"y","path":["y"]}],"claim_sets":[["x","y"],["y"]]"#,
     )?;
-    let no_path = query_with(alloc, r#""claims":[{"path":[]}]"#)?;
-    let two_queries = r#"{"credentials":[{"id":"a","format":"f"},{"id":"b","format":"f"}]}"#;
-    let full = lines(alloc, 1024)?;
-    let too_many = lines(alloc, 1025)?;
     let no_claims = r#"{"credentials":[{"id":"a","format":"f"}]}"#;
-    let files: [(&str, &[u8], Status, &str); 18] = [
-        (QUERY, TREES.as_bytes(), Status::Done, MATCHES),
-        (QUERY, b"", Status::NoOption, "none\n"),
+    let rows: [(&str, &[u8], Status, &str); 3] = [
         (no_claims, b"0", Status::Done, "match 0\nend\n"),
-        (QUERY, b"0\r\n", Status::NoOption, "none\n"),
-        ("", b"0", Status::FileRefused, "file refused q 1\n"),
-        (
-            QUERY,
-            b"{}\n{\"given_name\":1}",
-            Status::Done,
-            "match 1\nend\n",
-        ),
-        (
-            QUERY,
-            b"{\"given_name\":1}\n{",
-            Status::FileRefused,
-            "file refused t 2\n",
-        ),
-        (QUERY, b"0\n\n", Status::FileRefused, "file refused t 2\n"),
-        (QUERY, b"0\n\xff", Status::FileRefused, "file refused t 1\n"),
-        ("{", b"{", Status::FileRefused, "file refused q 1\n"),
         (
             &two_names,
             b"{\"a\":{\"b\":0}}\n{\"a\":\"b\"}\n",
@@ -93,33 +91,35 @@ fn runs(rt: HostRuntime) -> Result<(), Fail> {
             Status::Done,
             "match 1\nend\n",
         ),
-        (
-            "{}",
-            TREES.as_bytes(),
-            Status::RequestRefused,
-            "refused query 1\n",
-        ),
-        (
-            &no_path,
-            TREES.as_bytes(),
-            Status::RequestRefused,
-            "refused query 14\n",
-        ),
-        (&no_path, b"{", Status::FileRefused, "file refused t 1\n"),
-        (two_queries, TREES.as_bytes(), Status::NotOne, "not one\n"),
-        (QUERY, &full, Status::NoOption, "none\n"),
-        (
-            QUERY,
-            &too_many,
-            Status::FileRefused,
-            "file refused t 1025\n",
-        ),
     ];
-    for (query, trees, status, text) in files {
+    for (query, trees, status, text) in rows {
         let mut store = stored(alloc, query, trees)?;
         let (got, bytes) = tried(alloc, &mut store, 99)?;
         assert_eq!(rt; got, status, "{query}");
-        assert_eq!(rt; bytes.as_slice(), text.as_bytes(), "{query}");
+        assert_eq!(rt; bytes.as_slice(), text.as_bytes());
+    }
+    Ok(())
+}
+
+// Queries that are refused, and which refusal comes first.
+#[test]
+fn refused_queries(rt: HostRuntime) -> Result<(), Fail> {
+    let alloc = rt.alloc();
+    let no_path = query_with(alloc, r#""claims":[{"path":[]}]"#)?;
+    let two_queries = r#"{"credentials":[{"id":"a","format":"f"},{"id":"b","format":"f"}]}"#;
+    let rows: [(&str, &[u8], Status, &str); 6] = [
+        ("", b"0", Status::FileRefused, "file refused q 1\n"),
+        ("{", b"{", Status::FileRefused, "file refused q 1\n"),
+        ("{}", b"0", Status::RequestRefused, "refused query 1\n"),
+        (&no_path, b"0", Status::RequestRefused, "refused query 14\n"),
+        (&no_path, b"{", Status::FileRefused, "file refused t 1\n"),
+        (two_queries, b"0", Status::NotOne, "not one\n"),
+    ];
+    for (query, trees, status, text) in rows {
+        let mut store = stored(alloc, query, trees)?;
+        let (got, bytes) = tried(alloc, &mut store, 99)?;
+        assert_eq!(rt; got, status, "{query}");
+        assert_eq!(rt; bytes.as_slice(), text.as_bytes());
     }
     Ok(())
 }

@@ -3,7 +3,7 @@ use Rattle.cbor_core.specs.Seen.{span_of, entries_left}
 use Rattle.cbor_core.specs.Views.{entries_of}
 use Rattle.mdoc_view.specs.Items.{all_namespaces}
 use Rattle.mdoc_view.specs.Parts.{said_namespace}
-use Rattle.mdoc_view.specs.Prefixed.{prefixed}
+use Rattle.claim_tree.specs.Prefixed.{prefixed}
 use Rattle.mdoc_view.proofs.items.read_all.Given as goal
 
 abbrev pub invariant-loop-name : goal.invariant-loop-name

@@ -2,7 +2,7 @@ use Rattle.std.proofs.Common.{◌≡◌, Some, option_map, map, sym, ap, ◌∙�
 use Rattle.cbor_core.specs.Seen.{span_of, items_left}
 use Rattle.mdoc_view.specs.Items.{all_signed, signed_in}
 use Rattle.mdoc_view.specs.Parts.{said_signed}
-use Rattle.mdoc_view.specs.Prefixed.{prefixed}
+use Rattle.claim_tree.specs.Prefixed.{prefixed}
 use Rattle.mdoc_view.proofs.Prefixes.{one_more, behind_first}
 use Rattle.mdoc_view.proofs.items.read_items.Goals as goal
 

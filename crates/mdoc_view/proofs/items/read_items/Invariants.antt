@@ -3,7 +3,7 @@ use Rattle.cbor_core.specs.Seen.{span_of, items_left}
 use Rattle.cbor_core.specs.Views.{items_of}
 use Rattle.mdoc_view.specs.Items.{all_signed}
 use Rattle.mdoc_view.specs.Parts.{said_signed}
-use Rattle.mdoc_view.specs.Prefixed.{prefixed}
+use Rattle.claim_tree.specs.Prefixed.{prefixed}
 use Rattle.mdoc_view.proofs.items.read_items.Given as goal
 
 abbrev pub invariant-loop-item : goal.invariant-loop-item

@@ -4,7 +4,7 @@ use Rattle.cbor_core.specs.Seen.{span_of, items_left, entries_left}
 use Rattle.cbor_core.specs.Views.{items_of, entries_of}
 use Rattle.mdoc_view.specs.Value.{plain_parts, named_values, value_at}
 use Rattle.mdoc_view.specs.Valued.{valued}
-use Rattle.mdoc_view.specs.Prefixed.{prefixed}
+use Rattle.claim_tree.specs.Prefixed.{prefixed}
 use Rattle.mdoc_view.proofs.value.+tree.Given as goal
 
 abbrev pub decreases-tree_at : goal.decreases-tree_at

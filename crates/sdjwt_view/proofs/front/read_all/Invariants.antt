@@ -1,6 +1,6 @@
 use Rattle.std.proofs.Common.{◌≡◌, drop, map}
 use Rattle.sdjwt_view.specs.Disclosures.{all_disclosed}
-use Rattle.sdjwt_view.specs.Prefixed.{prefixed}
+use Rattle.claim_tree.specs.Prefixed.{prefixed}
 use Rattle.sdjwt_view.specs.Said.{said}
 use Rattle.sdjwt_view.proofs.front.read_all.Given as goal
 

@@ -6,7 +6,7 @@ use Rattle.serde_json.specs.View.{view, items_view, members_view}
 use Rattle.distinct_texts.specs.Texts.{Utf8, is_among}
 use Rattle.sdjwt_view.specs.Held.{all_said}
 use Rattle.claim_tree.specs.Owned.{tree_of, named_of}
-use Rattle.sdjwt_view.specs.Prefixed.{prefixed}
+use Rattle.claim_tree.specs.Prefixed.{prefixed}
 use Rattle.sdjwt_view.specs.Spelling.{spelled, spelled_list, has_placeholder, left_out, plain_members}
 use Rattle.claim_tree.specs.declared.owned.OwnedTree.{List as OwnedList}
 use Rattle.sdjwt_view.proofs.Orders.{plain_ascend}

@@ -6,7 +6,7 @@ use Rattle.claim_tree.specs.Search.{names_of}
 use Rattle.claim_tree.specs.Owned.{part_of, named_of}
 use Rattle.sdjwt_view.specs.Places.{texts_in}
 use Rattle.sdjwt_view.specs.Tabled.{tabled}
-use Rattle.sdjwt_view.specs.Prefixed.{prefixed}
+use Rattle.claim_tree.specs.Prefixed.{prefixed}
 use Rattle.sdjwt_view.specs.Spelling.{spelled, spelled_elements, plain_members, with_disclosures}
 use Rattle.sdjwt_view.proofs.spell.+spell.Given as goal
 
