@@ -50,7 +50,7 @@ fn reads_texts(rt: HostRuntime) -> Result<(), Fail> {
 }
 
 #[test]
-fn orders_names_and_addresses(rt: HostRuntime) -> Result<(), Fail> {
+fn orders_names(rt: HostRuntime) -> Result<(), Fail> {
     let short = Name::new(rt.alloc(), "b")?;
     let long = Name::new(rt.alloc(), "ab")?;
     let accented = Name::new(rt.alloc(), "é")?;
@@ -59,9 +59,14 @@ fn orders_names_and_addresses(rt: HostRuntime) -> Result<(), Fail> {
     let holder = KeyName::from_text(rt.alloc(), "jwk:{}")?;
     let again = KeyName::from_text(rt.alloc(), issuer.text())?;
     assert!(rt; holder < issuer && holder != issuer && again == issuer);
+    Ok(())
+}
+
+#[test]
+fn orders_addresses(rt: HostRuntime) -> Result<(), Fail> {
     let root = Address::root(rt.alloc());
     let mut named = root.copy(rt.alloc())?;
-    named.push(Step::Name(accented))?;
+    named.push(Step::Name(Name::new(rt.alloc(), "a")?))?;
     let mut ninth = named.copy(rt.alloc())?;
     ninth.push(Step::Place(9))?;
     let mut tenth = named.copy(rt.alloc())?;
