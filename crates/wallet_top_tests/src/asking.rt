@@ -7,12 +7,13 @@ use std::test::Fail;
 const QUERY: &str =
     r#"{"credentials":[{"id":"a","format":"dc+sd-jwt","claims":[{"path":["given_name"]}]}]}"#;
 
-// A store with a query, a query that breaks a rule, trees, wallets and two files of which neither is a credential. One wallet
-// names a file that is not there, and one a file that is too long.
+// A store with a query, which the empty name has too, a query that breaks a rule, trees, wallets and two files of which neither is
+// a credential. One wallet names a file that is not there, and one a file that is too long.
 fn stored(alloc: Global) -> Result<MemoryStore, Fail> {
     let mut store = MemoryStore::new(alloc);
-    let files: [(&str, &[u8]); 9] = [
+    let files: [(&str, &[u8]); 10] = [
         ("q", QUERY.as_bytes()),
+        ("", QUERY.as_bytes()),
         ("broken", b"{}"),
         ("t", b"{}\n"),
         ("x", b"x"),
@@ -47,6 +48,7 @@ fn files_in_their_order(rt: HostRuntime) -> Result<(), Fail> {
     for (word, query, other, status, names) in [
         ("try", "q", "t", Status::NoOption, "q t "),
         ("try", "q", "q", Status::NoOption, "q q "),
+        ("try", "", "t", Status::NoOption, " t "),
         ("try", "none", "t", Status::ReadFault, "none "),
         ("try", "long", "t", Status::FileRefused, "long "),
         ("try", "x", "t", Status::FileRefused, "x "),
@@ -55,6 +57,8 @@ fn files_in_their_order(rt: HostRuntime) -> Result<(), Fail> {
         ("try", "broken", "t", Status::RequestRefused, "broken t "),
         ("list", "q", "w", Status::NoOption, "q w x y x "),
         ("list", "q", "empty", Status::NoOption, "q empty "),
+        ("list", "", "w", Status::NoOption, " w x y x "),
+        ("list", "q", "", Status::FileRefused, "q  "),
         ("list", "none", "w", Status::ReadFault, "none "),
         ("list", "x", "w", Status::FileRefused, "x "),
         ("list", "q", "none", Status::ReadFault, "q none "),
