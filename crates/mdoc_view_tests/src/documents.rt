@@ -296,10 +296,8 @@ fn licence(rt: HostRuntime) -> Result<(), Fail> {
         .member("org.iso.18013.5.1")
         .ok_or("no namespace")?;
     assert_eq!(rt; elements.len(), 4);
-    let birth_date = elements.member("birth_date").ok_or("no birth date")?;
-    assert!(rt; birth_date.text() == Some("1990-01-01"));
-    let given_name = elements.member("given_name").ok_or("no given name")?;
-    assert!(rt; given_name.text() == Some("Erika"));
+    assert!(rt; text_of(elements, "birth_date") == Some("1990-01-01"));
+    assert!(rt; text_of(elements, "given_name") == Some("Erika"));
     let portrait = elements.member("portrait").ok_or("no portrait")?;
     assert!(rt; portrait.shape() == Shape::Bytes);
     assert_eq!(rt; credential.bytes().len(), 841);
@@ -317,6 +315,11 @@ fn altered(rt: HostRuntime) -> Result<(), Fail> {
     }
     assert_eq!(rt; refusal(alloc, &bytes)?, Some(Error::Refused(13)));
     Ok(())
+}
+
+// The text of an element.
+fn text_of<'a>(elements: MdNode<'a>, name: &str) -> Option<&'a str> {
+    elements.member(name)?.text()
 }
 
 #[test]
