@@ -99,26 +99,37 @@ fn refusals(rt: HostRuntime) -> Result<(), Fail> {
 }
 
 #[test]
-fn read(rt: HostRuntime) -> Result<(), Fail> {
-    let alloc = rt.alloc();
-    let one = SdCredential::read(alloc, ONE)?;
+fn members(rt: HostRuntime) -> Result<(), Fail> {
+    let one = SdCredential::read(rt.alloc(), ONE)?;
     let name = one.root().member("family_name").ok_or("no family name")?;
     assert!(rt; name.text() == Some("M\u{f6}bius"));
     assert!(rt; one.root().member("_sd").is_none());
-    assert_eq!(rt; one.text(), ONE);
+    Ok(())
+}
 
-    let facts = one.facts();
-    assert_eq!(rt; facts.first, 0);
-    assert!(rt; facts.past.is_none());
-    assert!(rt; facts.holder.is_none());
-    assert!(rt; one.hash() == HashName::Sha256);
-    assert!(rt; one.jws().typ() == Some("dc+sd-jwt"));
-
-    let full = SdCredential::read(alloc, FULL)?;
+#[test]
+fn members_beside_a_hidden_name(rt: HostRuntime) -> Result<(), Fail> {
+    let full = SdCredential::read(rt.alloc(), FULL)?;
     let root = full.root();
     assert_eq!(rt; root.len(), 6);
     assert!(rt; root.member("family_name").is_some());
     assert!(rt; root.member("given_name").is_some());
+    Ok(())
+}
+
+#[test]
+fn least_facts(rt: HostRuntime) -> Result<(), Fail> {
+    let one = SdCredential::read(rt.alloc(), ONE)?;
+    let facts = one.facts();
+    assert_eq!(rt; facts.first, 0);
+    assert!(rt; facts.past.is_none());
+    assert!(rt; facts.holder.is_none());
+    Ok(())
+}
+
+#[test]
+fn all_facts(rt: HostRuntime) -> Result<(), Fail> {
+    let full = SdCredential::read(rt.alloc(), FULL)?;
     let facts = full.facts();
     assert_eq!(rt; facts.kind, "t");
     assert_eq!(rt; facts.issuer.text(), "kid:[\"\",\"\"]");
@@ -126,5 +137,14 @@ fn read(rt: HostRuntime) -> Result<(), Fail> {
     assert!(rt; facts.past == Some(9));
     let holder = facts.holder.ok_or("no holder")?;
     assert_eq!(rt; holder.text(), "jwk:{\"kty\":\"EC\"}");
+    Ok(())
+}
+
+#[test]
+fn what_was_read(rt: HostRuntime) -> Result<(), Fail> {
+    let one = SdCredential::read(rt.alloc(), ONE)?;
+    assert_eq!(rt; one.text(), ONE);
+    assert!(rt; one.hash() == HashName::Sha256);
+    assert!(rt; one.jws().typ() == Some("dc+sd-jwt"));
     Ok(())
 }
