@@ -313,6 +313,18 @@ fn elements(rt: HostRuntime) -> Result<(), Fail> {
     Ok(())
 }
 
+// What a signature over no payload is over (RFC 9052, section 4.4).
+#[test]
+fn signed_over_nothing(rt: HostRuntime) -> Result<(), Fail> {
+    let alloc = rt.alloc();
+    let bytes = from_url64(alloc, NONE)?;
+    let credential = MdCredential::read(alloc, &bytes)?;
+    let signed = credential.issuer_auth().to_be_signed(alloc, b"")?;
+    let wanted = from_hex(alloc, "846a5369676e61747572653143a101264040")?;
+    assert_eq!(rt; signed.as_slice(), wanted.as_slice());
+    Ok(())
+}
+
 // The same with another letter in place of the E of `Erika`.
 #[test]
 fn altered(rt: HostRuntime) -> Result<(), Fail> {
