@@ -4,3 +4,6 @@ pub mod Hash
 pub mod Leaf
 pub mod Refusal
 pub mod Tdate
+pub mod Rules
+pub mod Laws
+pub mod Texts

@@ -5,6 +5,8 @@
 #![tactic(auto)]
 
 mod answers;
+#[cfg(test)]
+mod tests;
 mod verdict;
 
 use answers::answers;

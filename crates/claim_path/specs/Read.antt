@@ -8,7 +8,7 @@ use Rattle.claim_path.specs.declared.path.PathStep.TheVariants.{Member, Every, P
 use Rattle.claim_path.specs.declared.path.Scalar.{Scalar}
 use Rattle.claim_path.specs.declared.path.Scalar.TheVariants.{Text, Whole, Truth}
 use Rattle.json_forms.specs.Look.{elements_of, is_empty}
-use Rattle.rule_tables.specs.Rules.{rule, first, unless_broken}
+use Rattle.base_forms.specs.Rules.{rule, first, unless_broken}
 
 -- a step is a text, null, or a whole number from 0
 abbrev pub step_of : Data → Option PathStep

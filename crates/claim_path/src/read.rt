@@ -74,7 +74,7 @@ impl Values {
 
 /// The first rule that a path in JSON breaks: 1 no list, 2 empty, 3 a step that is no text, null or
 /// whole number from 0 to 2^64 - 1, 4 more than 16 steps. It takes no memory.
-#[tactic(auto, unfolding(rule_tables::specs::Rules::rule))]
+#[tactic(auto, unfolding(base_forms::specs::Rules::rule))]
 pub fn path_rule(value: &Value) -> Option<u8>
     ensures { result ≡ path_rule (view value.now) }
 {
@@ -94,7 +94,7 @@ pub fn path_rule(value: &Value) -> Option<u8>
 
 /// The rule that the values of a claim in JSON break: 1 no list of 1 to 32 texts, whole numbers from
 /// -2^63 to 2^64 - 1 and truth values. It takes no memory.
-#[tactic(auto, unfolding(rule_tables::specs::Rules::rule))]
+#[tactic(auto, unfolding(base_forms::specs::Rules::rule))]
 pub fn values_rule(value: &Value) -> Option<u8>
     ensures { result ≡ values_rule (view value.now) }
 {

@@ -41,7 +41,7 @@ impl<'a> Sign1<'a> {
     /// levels; 3 an algorithm (label 1) that is missing in the protected map or no integer; 4 critical headers (label 2),
     /// since no extension is understood; 5 a payload that is null where it is awaited inside, or bytes where it is
     /// detached.
-    #[tactic(auto, unfolding(rule_tables::specs::Rules::rule, crate::specs::Sign1::sign1_rule))]
+    #[tactic(auto, unfolding(base_forms::specs::Rules::rule, crate::specs::Sign1::sign1_rule))]
     pub fn read(alloc: Global, item: Item<'a>, awaited: Payload) -> Result<Sign1<'a>, Error>
         ensures sound { IfOk result (λ s. sign1_rule awaited (span_of item.entry) ≡ None) }
         ensures read { IfOk result (λ s. message_in (span_of item.entry) ≡ Some (message s)) }
@@ -102,7 +102,7 @@ impl<'a> Sign1<'a> {
 }
 
 // The map that the protected bytes are, if there are any.
-#[tactic(auto, unfolding(rule_tables::specs::Rules::rule, crate::specs::Sign1::protected_rule))]
+#[tactic(auto, unfolding(base_forms::specs::Rules::rule, crate::specs::Sign1::protected_rule))]
 fn protected_map<'a>(alloc: Global, bytes: &'a [u8]) -> Result<Option<Item<'a>>, Error>
     ensures sound { IfOk result (λ _. protected_rule bytes.now ≡ None) }
     ensures read { IfOk result (λ headers. headers_of headers ≡ protected_of bytes.now) }

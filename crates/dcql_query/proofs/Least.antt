@@ -6,8 +6,8 @@ use Rattle.std.specs.Prelude.{ℕ, codes, not, ◌&&◌, ◌==◌, is_none, is_s
 use Rattle.std.specs.List.{flat_map}
 use Rattle.serde_json.specs.Data.{Data}
 use Rattle.serde_json.specs.Find.{get}
-use Rattle.rule_tables.specs.Rules.{rule, first, least, lowest}
-use Rattle.rule_tables.proofs.Lowest.{IsWithin, lowest-none, rule_before, last, table, alone, joined, parts, least_is_lowest, least_within}
+use Rattle.base_forms.specs.Rules.{rule, first, least, lowest}
+use Rattle.base_forms.proofs.Lowest.{IsWithin, lowest-none, rule_before, last, table, alone, joined, parts, least_is_lowest, least_within}
 use Rattle.json_forms.specs.Look.{is_empty, text_at, elements_at, is_wrong}
 use Rattle.dcql_query.specs.Ids.{all_have_right_ids, are_right_ids, all_have_ids, has_equal_ids, knows_all_lists}
 use Rattle.dcql_query.specs.Table.{is_wrong_path, is_two_names, are_right_values, is_bool, is_meta, is_object_list, is_set_list, is_credential_set_list, knows_all_options, claim_rule, has_format, credential_rule, query_rule}

@@ -4,7 +4,7 @@ use Rattle.std.specs.Prelude.{◌≡◌, ⊤, ℕ, Bool, not, ◌&&◌, nat_lt, 
 use Rattle.std.specs.List.{flat_map}
 use Rattle.serde_json.specs.Data.{Data}
 use Rattle.serde_json.specs.Find.{get}
-use Rattle.rule_tables.specs.Rules.{broken, lowest}
+use Rattle.base_forms.specs.Rules.{broken, lowest}
 use Rattle.json_forms.specs.Look.{is_empty, text_at, elements_at, is_wrong}
 use Rattle.dcql_query.specs.declared.error.Error.{Error}
 use Rattle.dcql_query.specs.declared.error.Error.TheVariants.{Refused, NoMemory}

@@ -4,7 +4,7 @@ use Rattle.std.specs.Option.{option_map_or, unwrap_or}
 use Rattle.std.specs.List.{list_any, range_with_len}
 use Rattle.serde_json.specs.Data.{Data}
 use Rattle.serde_json.specs.Find.{get, as_str, as_bool}
-use Rattle.rule_tables.specs.Rules.{unless_broken}
+use Rattle.base_forms.specs.Rules.{unless_broken}
 use Rattle.json_forms.specs.Look.{elements_of, is_empty, text_at, elements_at}
 use Rattle.claim_path.specs.Read.{step_of, scalars_of}
 use Rattle.dcql_query.specs.declared.query.Claim.{Claim}

@@ -6,7 +6,7 @@ use Rattle.std.specs.List.{list_all}
 use Rattle.std.specs.Str.{bytes_eq}
 use Rattle.serde_json.specs.Data.{Data}
 use Rattle.serde_json.specs.Find.{get, as_bool}
-use Rattle.rule_tables.specs.Rules.{rule, first, least}
+use Rattle.base_forms.specs.Rules.{rule, first, least}
 use Rattle.json_forms.specs.Look.{elements_of, is_empty, text_at, elements_at, is_wrong, is_text, is_object, are_texts, are_objects, is_text_list, are_text_lists}
 use Rattle.claim_path.specs.Read.{path_rule, values_rule}
 use Rattle.dcql_query.specs.Ids.{all_have_right_ids, are_right_ids, all_have_ids, has_equal_ids, knows_all_lists}

@@ -7,16 +7,16 @@ ghost use Rattle.dcql_query.specs.Table.{is_two_texts, are_right_values, claim_r
 
 use crate::credential_rules::has_format;
 use crate::ids::{are_right_ids, has_equal_ids};
+use base_forms::lesser;
 use claim_path::{path_rule, values_rule};
 use json_forms::{are_objects, are_texts, elements, elements_at};
-use rule_tables::lesser;
 use serde_json::Value;
 
 // The most claims of a credential query.
 const MOST_CLAIMS: usize = 64;
 
 // The least rule that the claims of a credential query break.
-#[tactic(auto, unfolding(rule_tables::specs::Rules::rule))]
+#[tactic(auto, unfolding(base_forms::specs::Rules::rule))]
 pub(crate) fn claims_rule(query: &Value) -> Option<u8>
     ensures { result ≡ claims_rule (view query.now) }
 {
@@ -59,7 +59,7 @@ fn least_claim_rule(claims: &[Value], document: bool) -> Option<u8>
 }
 
 // The least rule that one claim breaks, of a mobile document or not.
-#[tactic(auto, unfolding(rule_tables::specs::Rules::rule))]
+#[tactic(auto, unfolding(base_forms::specs::Rules::rule))]
 fn claim_rule(claim: &Value, document: bool) -> Option<u8>
     ensures { result ≡ claim_rule document (view claim.now) }
 {

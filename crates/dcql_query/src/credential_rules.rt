@@ -28,7 +28,7 @@ pub(crate) fn credential_rule(query: &Value) -> Option<u8>
 }
 
 // Of all but its claims and claim sets.
-#[tactic(auto, unfolding(rule_tables::specs::Rules::rule))]
+#[tactic(auto, unfolding(base_forms::specs::Rules::rule))]
 fn header_rule(query: &Value) -> Option<u8>
     ensures { result ≡ header_rule (view query.now) }
 {
@@ -88,7 +88,7 @@ pub(crate) fn has_format(query: &Value, name: &str) -> bool
 }
 
 // Of its claim sets.
-#[tactic(auto, unfolding(rule_tables::specs::Rules::rule))]
+#[tactic(auto, unfolding(base_forms::specs::Rules::rule))]
 fn sets_rule(query: &Value) -> Option<u8>
     ensures { result ≡ sets_rule (view query.now) }
 {

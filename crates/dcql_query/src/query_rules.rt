@@ -6,15 +6,15 @@ ghost use Rattle.dcql_query.specs.Table.{least_credential_rule, query_rule};
 use crate::credential_rules::credential_rule;
 use crate::credential_sets::{has_wrong_credential_sets, knows_all_options};
 use crate::ids::{all_have_right_ids, has_equal_ids};
+use base_forms::lesser;
 use json_forms::elements_at;
-use rule_tables::lesser;
 use serde_json::Value;
 
 // The most credential queries of a query.
 const MOST_QUERIES: usize = 16;
 
 // The least rule that a query breaks.
-#[tactic(auto, unfolding(rule_tables::specs::Rules::rule))]
+#[tactic(auto, unfolding(base_forms::specs::Rules::rule))]
 pub(crate) fn query_rule(value: &Value) -> Option<u8>
     ensures { result ≡ query_rule (view value.now) }
 {

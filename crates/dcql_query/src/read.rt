@@ -50,7 +50,7 @@ impl Query {
     /// 22. An option names no credential query.
     ///
     /// [`Error::NoMemory`] where memory is wanting.
-    #[tactic(auto, unfolding(rule_tables::specs::Rules::rule))]
+    #[tactic(auto, unfolding(base_forms::specs::Rules::rule))]
     pub fn from_json(alloc: Global, value: &Value) -> Result<Query, Error>
         ensures ok { IfOk result (λ q. query_of (view value.now) ≡ Ok q) }
         ensures refused { IfErr result (λ e. IsRefusal (query_of (view value.now)) e) }

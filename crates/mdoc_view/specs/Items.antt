@@ -3,8 +3,8 @@ use Rattle.std.specs.Prelude.{ℕ, Bool, true, false, not, ◌&&◌, ◌+◌, Li
 use Rattle.std.specs.Option.{option_map_or}
 use Rattle.std.specs.List.{list_any, list_all}
 use Rattle.std.specs.Str.{bytes_eq}
-use Rattle.rule_tables.specs.Rules.{rule, first}
-use Rattle.distinct_texts.specs.Texts.{differ}
+use Rattle.base_forms.specs.Rules.{rule, first}
+use Rattle.base_forms.specs.Texts.{differ}
 use Rattle.base_forms.specs.Hash.{digest_by}
 use Rattle.base_forms.specs.declared.hash.HashName.{HashName}
 use Rattle.cbor_core.specs.Views.{Span, utf8_text_of, items_of, find_in}

@@ -2,7 +2,7 @@
 use Rattle.std.specs.Prelude.{ℕ, suc, Bool, true, false, not, ◌||◌, ◌==◌, List, [], ◌∷◌, codes, Option, None, option_map, option_and_then, is_none, if◌then◌else◌}
 use Rattle.std.specs.Option.{option_map_or}
 use Rattle.std.specs.Str.{bytes_eq}
-use Rattle.rule_tables.specs.Rules.{rule, first}
+use Rattle.base_forms.specs.Rules.{rule, first}
 use Rattle.base_forms.specs.Hash.{mso_hash_named}
 use Rattle.base_forms.specs.Tdate.{tdate_of}
 use Rattle.cbor_core.specs.Views.{Span, utf8_text_of, tag_of, find_in}

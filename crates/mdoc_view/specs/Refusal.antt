@@ -1,6 +1,6 @@
 -- Which rule a mobile document breaks first: of all rules of the document, of CBOR and of its signed message.
 use Rattle.std.specs.Prelude.{ℕ, nat_lt, List, [], ◌∷◌, Option, Some, None, option_map, option_and_then, unwrap_or}
-use Rattle.rule_tables.specs.Rules.{rule, first}
+use Rattle.base_forms.specs.Rules.{rule, first}
 use Rattle.base_forms.specs.Hash.{mso_hash_named}
 use Rattle.base_forms.specs.declared.hash.HashName.{HashName}
 use Rattle.base_forms.specs.declared.hash.HashName.TheVariants.{Sha256}

@@ -1,6 +1,6 @@
 // The rules on elements and digests.
 ghost use Rattle.std.specs.Prelude.{◌≡◌, not, IfOk, map, [], ◌∷◌};
-ghost use Rattle.rule_tables.specs.Rules.{rule, first};
+ghost use Rattle.base_forms.specs.Rules.{rule, first};
 ghost use Rattle.std.specs.List.{list_any, list_all};
 ghost use Rattle.cbor_core.specs.Seen.{span_of};
 ghost use Rattle.cbor_core.specs.Views.{entries_of};
@@ -12,9 +12,8 @@ use crate::digests::{Digests, Numbers};
 use crate::error::NoMemory;
 use crate::items::{Namespace, Signed, are_too_many, read_namespaces};
 use crate::object::Object;
-use base_forms::HashName;
+use base_forms::{HashName, are_distinct};
 use cbor_core::Item;
-use distinct_texts::are_distinct;
 use std::alloc::{AllocError, Global};
 
 /// What the namespaces say, or the first rule on signed items that is broken.
@@ -25,7 +24,7 @@ pub enum Judged<'t> {
 }
 
 /// Reads the signed items of a document by its security object.
-#[tactic(auto, unfolding(rule_tables::specs::Rules::rule, crate::specs::Refusal::items_rule))]
+#[tactic(auto, unfolding(base_forms::specs::Rules::rule, crate::specs::Refusal::items_rule))]
 pub fn judge<'t>(
     alloc: Global,
     object: &Object<'t>,
@@ -47,7 +46,7 @@ pub fn judge<'t>(
 
 // The first that is broken of the rules that no element stands twice in its namespace, that each item has a digest, and
 // that it is the item's own.
-#[tactic(auto, unfolding(rule_tables::specs::Rules::rule, crate::specs::Items::digests_rule))]
+#[tactic(auto, unfolding(base_forms::specs::Rules::rule, crate::specs::Items::digests_rule))]
 fn digests_rule<'t>(
     alloc: Global,
     hash: HashName,
@@ -93,7 +92,7 @@ fn elements<'t>(alloc: Global, items: &[Signed<'t>]) -> Result<Vec<&'t str>, All
 
 // The first that is broken of the rules that each item has a digest, and that it is the item's own. The digests of a
 // namespace are put in order once for both.
-#[tactic(auto, unfolding(rule_tables::specs::Rules::rule))]
+#[tactic(auto, unfolding(base_forms::specs::Rules::rule))]
 fn digest_rule<'t>(
     alloc: Global,
     hash: HashName,

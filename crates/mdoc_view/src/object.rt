@@ -72,7 +72,7 @@ impl<'t> Object<'t> {
     }
 
     /// The first of the rules on version, hash, dates and the device's key that is broken.
-    #[tactic(auto, unfolding(rule_tables::specs::Rules::rule, crate::specs::Object::object_rule))]
+    #[tactic(auto, unfolding(base_forms::specs::Rules::rule, crate::specs::Object::object_rule))]
     pub fn rule(&self) -> Option<u8>
         ensures { result ≡ object_rule (said_object self.now) }
     {

@@ -8,7 +8,7 @@ use Rattle.serde_json.specs.Data.{Data, null, boolean, number, string, array, ob
 use Rattle.claim_tree.specs.Tree.{Tree, ListOf, RecordOf, ascend, is_claim, are_claims, hold_claims, member_names, element_marks}
 use Rattle.claim_tree.specs.Plain.{plain, plain_elements, plain_members as plain_fields}
 use Rattle.claim_tree.specs.Parts.{Part, Named, elements_of, members_of, put_member}
-use Rattle.distinct_texts.specs.Texts.{Utf8, is_among}
+use Rattle.base_forms.specs.Texts.{Utf8, is_among}
 use Rattle.sdjwt_view.specs.Disclosures.{Disclosed, found}
 use Rattle.sdjwt_view.specs.Places.{sd, in_object, in_list, placeholder, is_placeholder, own_digests, places_in, places_among, places_under, is_mismatch, disclosed_names, gets_clash, has_clash, have_clash, holds_clash}
 use Rattle.sdjwt_view.specs.Spelling.{has_placeholder, left_out, disclosed_element, spelled_element, spelled_elements, plain_members, with_disclosure, with_disclosures, spelled_members, spelled}

@@ -9,7 +9,7 @@ use Rattle.serde_json.specs.Data.{Data, null, boolean, number, string, array, ob
 use Rattle.serde_json.specs.Find.{as_object}
 use Rattle.claim_tree.specs.Tree.{Name, Tree, ListOf, RecordOf, element_marks, member_names, ascend, is_claim, are_claims, hold_claims}
 use Rattle.claim_tree.specs.Plain.{plain, plain_elements, plain_members as plain_fields}
-use Rattle.distinct_texts.specs.Texts.{Utf8, is_among}
+use Rattle.base_forms.specs.Texts.{Utf8, is_among}
 use Rattle.sdjwt_view.specs.Disclosures.{Disclosed, found}
 use Rattle.sdjwt_view.specs.Places.{placeholder, own_digests}
 use Rattle.claim_tree.proofs.PutMembers.{ascend-put, hold-put}

@@ -3,7 +3,7 @@ use Rattle.std.proofs.Common.{◌≡◌, ℕ, zero, suc, Bool, true, false, cond
 use Rattle.serde_json.specs.Data.{Data, null, boolean, number, string, array, object, Items, Members as Fields}
 use Rattle.claim_tree.specs.Tree.{Tree, ListOf, RecordOf}
 use Rattle.claim_tree.specs.Parts.{Part, Named, elements_of, members_of, put_member}
-use Rattle.distinct_texts.specs.Texts.{Utf8}
+use Rattle.base_forms.specs.Texts.{Utf8}
 use Rattle.sdjwt_view.specs.Disclosures.{Disclosed, found}
 use Rattle.sdjwt_view.specs.Places.{placeholder, own_digests}
 use Rattle.sdjwt_view.specs.Spelling.{has_placeholder, left_out, disclosed_element, spelled_element, spelled_elements, plain_members, with_disclosure, with_disclosures, spelled_members, spelled, spelled_payload}

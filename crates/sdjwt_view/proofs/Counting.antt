@@ -4,10 +4,10 @@ use Rattle.std.specs.List.{AllByRecursion}
 use Rattle.std.specs.Str.{bytes_eq}
 use Rattle.std.proofs.lemmas.Bool.{cases_Bool, and_parts, and_from, or_parts, not_from_false}
 use Rattle.std.proofs.lemmas.Slice.Eq.{bytes_eq-Decides}
-use Rattle.distinct_texts.specs.Texts.{Utf8, is_among, differ}
+use Rattle.base_forms.specs.Texts.{Utf8, is_among, differ}
 use Rattle.sdjwt_view.specs.Disclosures.{Disclosed}
 use Rattle.sdjwt_view.specs.Relation.{times}
-use Rattle.distinct_texts.proofs.Differing.{bytes_eq-flip}
+use Rattle.base_forms.proofs.Differing.{bytes_eq-flip}
 
 -- one where a test is true
 abbrev pub one : Bool → ℕ

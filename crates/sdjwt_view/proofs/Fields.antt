@@ -12,10 +12,10 @@ use Rattle.serde_json.specs.Data.{Data, string, Members as Fields, no_members as
 use Rattle.serde_json.specs.Find.{as_str, get_member}
 use Rattle.claim_tree.specs.Tree.{Name, ascend, member_names}
 use Rattle.claim_tree.specs.Plain.{plain_members as plain_fields}
-use Rattle.distinct_texts.specs.Texts.{Utf8, is_among}
+use Rattle.base_forms.specs.Texts.{Utf8, is_among}
 use Rattle.sdjwt_view.specs.Places.{sd, Place, in_object, listed, own_digests, places_in, places_under}
 use Rattle.sdjwt_view.specs.Spelling.{sd_alg, left_out}
-use Rattle.distinct_texts.proofs.Differing.{same_from, bytes_eq-flip}
+use Rattle.base_forms.proofs.Differing.{same_from, bytes_eq-flip}
 
 -- ---- looking up a member
 

@@ -10,8 +10,8 @@ use Rattle.std.proofs.lemmas.Bool.Decides.{nat_tests}
 use Rattle.std.proofs.lemmas.Option.{slice_get-get_or, slice_get_past}
 use Rattle.std.proofs.lemmas.List.{length-map, length-take-le}
 use Rattle.std.proofs.lemmas.Grind.{common_steps}
-use Rattle.distinct_texts.specs.Texts.{Utf8, is_among}
-use Rattle.distinct_texts.proofs.Differing.{same_from}
+use Rattle.base_forms.specs.Texts.{Utf8, is_among}
+use Rattle.base_forms.proofs.Differing.{same_from}
 use Rattle.sdjwt_view.specs.Disclosures.{found}
 use Rattle.sdjwt_view.specs.Said.{said}
 use Rattle.sdjwt_view.specs.Named.{own_digest, first_place}

@@ -5,13 +5,13 @@ use Rattle.std.specs.Str.{bytes_eq}
 use Rattle.std.proofs.lemmas.Bool.{cases_Bool}
 use Rattle.std.proofs.lemmas.List.{map-append}
 use Rattle.serde_json.specs.Data.{Members as Fields}
-use Rattle.distinct_texts.specs.Texts.{Utf8, is_among}
+use Rattle.base_forms.specs.Texts.{Utf8, is_among}
 use Rattle.sdjwt_view.specs.Disclosures.{Disclosed, found}
 use Rattle.sdjwt_view.specs.Places.{sd, Place, in_object, in_list, digest_at, own_digests, places_in, places_under, reached, reached_by, is_mismatch, has_clash}
 use Rattle.sdjwt_view.specs.Relation.{times}
 use Rattle.sdjwt_view.proofs.Counting.{one, one_false, times-append}
 use Rattle.sdjwt_view.proofs.Fields.{HasOne, LeavesTexts, plain_places, under_parts}
-use Rattle.distinct_texts.proofs.Differing.{same_from}
+use Rattle.base_forms.proofs.Differing.{same_from}
 use Rattle.sdjwt_view.proofs.Reached.{from, by_more, by-append, reached_more}
 
 pub all-append : {X : Type 0} (P : X → Type 0) (xs ys : List X) → AllByRecursion P xs → AllByRecursion P ys → AllByRecursion P (xs ++ ys)

@@ -5,7 +5,7 @@ use Rattle.std.proofs.Common.{inl, inr}
 use Rattle.serde_json.specs.Data.{Data}
 use Rattle.serde_json.specs.Find.{get}
 use Rattle.serde_json.specs.Written.{has_float}
-use Rattle.rule_tables.specs.Rules.{rule, first}
+use Rattle.base_forms.specs.Rules.{rule, first}
 use Rattle.json_forms.specs.Look.{is_wrong, is_object}
 use Rattle.sdjwt_view.specs.Facts.{is_key, is_holder, facts_rule}
 

@@ -7,7 +7,7 @@ use Rattle.serde_json.specs.View.{view}
 use Rattle.serde_json.specs.declared.value.Value.{Value}
 use Rattle.json_forms.specs.Look.{is_text}
 use Rattle.serde_json.specs.Find.{as_str}
-use Rattle.distinct_texts.specs.Texts.{Utf8}
+use Rattle.base_forms.specs.Texts.{Utf8}
 use Rattle.sdjwt_view.specs.Disclosures.{salted, last_of}
 
 last_end : (ds : List Data) (d : Data) → last_of (ds ++ d ∷ []) ≡ Some d

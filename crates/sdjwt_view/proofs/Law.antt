@@ -6,7 +6,7 @@ use Rattle.std.specs.List.{list_any, list_all}
 use Rattle.std.proofs.lemmas.Bool.{and_parts, and_from, ltb-false, le-ltb}
 use Rattle.serde_json.specs.Data.{Data, null, boolean, number, string, array, object, Members as Fields}
 use Rattle.serde_json.specs.Find.{as_object, as_str}
-use Rattle.rule_tables.specs.Rules.{rule, first}
+use Rattle.base_forms.specs.Rules.{rule, first}
 use Rattle.base_forms.specs.Hash.{hash_named}
 use Rattle.base_forms.specs.declared.hash.HashName.{HashName}
 use Rattle.base_forms.specs.declared.hash.HashName.TheVariants.{Sha256}
@@ -16,7 +16,7 @@ use Rattle.jws_envelope.specs.Envelope.{Envelope, envelope_of, jws_rule}
 use Rattle.claim_tree.specs.Tree.{ascend, hold_claims, member_names}
 use Rattle.claim_tree.specs.Plain.{plain_members as plain_fields}
 use Rattle.claim_tree.specs.Parts.{Named}
-use Rattle.distinct_texts.specs.Texts.{Utf8, is_among, differ}
+use Rattle.base_forms.specs.Texts.{Utf8, is_among, differ}
 use Rattle.sdjwt_view.specs.Disclosures.{Disclosed, salted, json_in, digest_of, disclosed, all_disclosed}
 use Rattle.sdjwt_view.specs.Places.{digest_at, all_places, is_mismatch, is_sound}
 use Rattle.sdjwt_view.specs.Placing.{names_mark, reserved, top_names, any_clash, marks_rule, double_rule, reach_rule, names_rule, depth_rule, own_place_rule, placing_rule}

@@ -15,7 +15,7 @@ use Rattle.claim_tree.specs.Tree.{Name, Tree, member_names, ascend}
 use Rattle.claim_tree.specs.Plain.{plain_members as plain_fields}
 use Rattle.claim_tree.specs.Parts.{Named}
 use Rattle.claim_tree.specs.Search.{names_of, below}
-use Rattle.distinct_texts.specs.Texts.{is_among}
+use Rattle.base_forms.specs.Texts.{is_among}
 use Rattle.claim_tree.specs.Prefixed.{prefixed}
 use Rattle.sdjwt_view.specs.Spelling.{left_out, plain_members}
 

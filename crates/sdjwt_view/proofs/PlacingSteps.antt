@@ -2,8 +2,8 @@
 use Rattle.std.proofs.Common.{◌≡◌, ℕ, Bool, true, false, ◌&&◌, List, [], ◌∷◌, map, Option, Some, None, refl, ap, ap₂, ◌∙◌, subst}
 use Rattle.std.specs.List.{list_all}
 use Rattle.serde_json.specs.Data.{Data}
-use Rattle.rule_tables.specs.Rules.{rule, first}
-use Rattle.distinct_texts.specs.Texts.{differ}
+use Rattle.base_forms.specs.Rules.{rule, first}
+use Rattle.base_forms.specs.Texts.{differ}
 use Rattle.sdjwt_view.specs.Disclosures.{Disclosed}
 use Rattle.sdjwt_view.specs.Places.{are_reached}
 use Rattle.std.specs.Prelude.{IfOk, Result, Ok, Err}

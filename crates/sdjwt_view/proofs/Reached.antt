@@ -4,12 +4,12 @@ use Rattle.std.specs.Str.{bytes_eq}
 use Rattle.std.proofs.lemmas.Bool.{cases_Bool}
 use Rattle.std.proofs.lemmas.List.{map-append}
 use Rattle.serde_json.specs.Data.{Data}
-use Rattle.distinct_texts.specs.Texts.{Utf8, differ}
+use Rattle.base_forms.specs.Texts.{Utf8, differ}
 use Rattle.sdjwt_view.specs.Disclosures.{Disclosed, found}
 use Rattle.sdjwt_view.specs.Places.{digest_at, places_in, digests_in, values_places, all_places, reached, reached_by}
 use Rattle.sdjwt_view.specs.Relation.{times}
 use Rattle.sdjwt_view.proofs.Counting.{one_true, one_false, times-append, differ_times}
-use Rattle.distinct_texts.proofs.Differing.{bytes_eq-flip}
+use Rattle.base_forms.proofs.Differing.{bytes_eq-flip}
 
 -- what a disclosure that is found gives
 abbrev pub from : (Data → List Utf8) → Option Disclosed → List Utf8

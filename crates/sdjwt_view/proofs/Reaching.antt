@@ -8,7 +8,7 @@ use Rattle.serde_json.specs.Find.{get_member}
 use Rattle.serde_json.specs.View.{view, members_view}
 use Rattle.serde_json.specs.declared.value.Value.{Value, Object}
 use Rattle.serde_json.proofs.Views.{view-Object}
-use Rattle.distinct_texts.specs.Texts.{Utf8, differ}
+use Rattle.base_forms.specs.Texts.{Utf8, differ}
 use Rattle.sdjwt_view.specs.Disclosures.{Disclosed}
 use Rattle.sdjwt_view.specs.Held.{place_of}
 use Rattle.sdjwt_view.specs.Places.{digest_at, digests_in, places_in, reached, reached_by, own_digests, disclosed_names, gets_clash, has_clash, holds_clash}

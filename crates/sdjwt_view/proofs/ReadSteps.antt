@@ -2,12 +2,12 @@
 use Rattle.std.proofs.Common.{◌≡◌, ℕ, true, option_map, List, [], ◌∷◌, map, Option, Some, None, Result, Ok, Err, refl, ap, ◌∙◌, subst}
 use Rattle.std.specs.Prelude.{IfOk, IfErr, IfSome, unwrap_or}
 use Rattle.serde_json.specs.Data.{Data, null}
-use Rattle.rule_tables.specs.Rules.{unless_broken}
+use Rattle.base_forms.specs.Rules.{unless_broken}
 use Rattle.json_forms.specs.Text.{json_of}
 use Rattle.jws_envelope.specs.Compact.{dot_parts}
 use Rattle.jws_envelope.specs.Envelope.{Envelope, envelope_of, jws_rule, jws_of}
 use Rattle.claim_tree.specs.Tree.{RecordOf, is_claim}
-use Rattle.distinct_texts.specs.Texts.{Utf8}
+use Rattle.base_forms.specs.Texts.{Utf8}
 use Rattle.sdjwt_view.specs.Reading.{pieces, parts_of, inner_rule, refused, envelope, either_rule, refusal_of_parts, refusal_of, credential_of, credential_in}
 use Rattle.sdjwt_view.specs.Refusal.{IsRefusal, IsInnerRefusal}
 use Rattle.sdjwt_view.specs.Said.{said}

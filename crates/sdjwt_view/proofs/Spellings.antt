@@ -6,7 +6,7 @@ use Rattle.serde_json.specs.View.{view, items_view, members_view}
 use Rattle.serde_json.specs.declared.value.Value.{Value, Array, Object}
 use Rattle.serde_json.proofs.Views.{view-Array, view-Object}
 use Rattle.claim_tree.specs.Tree.{Tree, ListOf}
-use Rattle.distinct_texts.specs.Texts.{Utf8, is_among}
+use Rattle.base_forms.specs.Texts.{Utf8, is_among}
 use Rattle.sdjwt_view.specs.Disclosures.{Disclosed}
 use Rattle.claim_tree.specs.Owned.{tree_of, part_of}
 use Rattle.claim_tree.specs.Prefixed.{prefixed}

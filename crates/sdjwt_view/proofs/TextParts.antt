@@ -2,7 +2,7 @@
 use Rattle.std.proofs.Common.{◌≡◌, ◌==◌, true, false, List, [], ◌∷◌, ◌++◌, length, map, Option, Some, None, option_map, Bor, refl, ap, ◌∙◌, arith}
 use Rattle.std.proofs.lemmas.Bool.Decides.{nat_tests}
 use Rattle.std.proofs.lemmas.List.{map-append}
-use Rattle.distinct_texts.specs.Texts.{Utf8}
+use Rattle.base_forms.specs.Texts.{Utf8}
 use Rattle.sdjwt_view.specs.Reading.{before_empty, parts_of}
 
 step : (t u : Utf8) (us : List Utf8) → before_empty (t ∷ u ∷ us) ≡ option_map (λ vs. t ∷ vs) (before_empty (u ∷ us))

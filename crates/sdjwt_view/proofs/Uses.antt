@@ -5,7 +5,7 @@ use Rattle.std.specs.Str.{bytes_eq}
 use Rattle.std.proofs.lemmas.Bool.{cases_Bool, and_parts, and_from, or_parts, or_from}
 use Rattle.serde_json.specs.Data.{Data, object, Members as Fields}
 use Rattle.claim_tree.specs.Parts.{Named}
-use Rattle.distinct_texts.specs.Texts.{Utf8, is_among, differ}
+use Rattle.base_forms.specs.Texts.{Utf8, is_among, differ}
 use Rattle.sdjwt_view.specs.Disclosures.{Disclosed, found}
 use Rattle.sdjwt_view.specs.Places.{Place, digest_at, places_in, values_places, all_places, reached, are_reached, are_placed, is_mismatch, has_clash}
 use Rattle.sdjwt_view.specs.Placing.{any_clash}
@@ -15,7 +15,7 @@ use Rattle.sdjwt_view.proofs.Built.{IsFine, AreFine, members_built, spells_built
 use Rattle.sdjwt_view.proofs.Claims.{IsSound, AreSound}
 use Rattle.sdjwt_view.proofs.Counting.{one_true, one_false, same_text, among_from, times_some, few_used}
 use Rattle.sdjwt_view.proofs.Fields.{LeavesTexts}
-use Rattle.distinct_texts.proofs.Differing.{same_from, bytes_eq-flip}
+use Rattle.base_forms.proofs.Differing.{same_from, bytes_eq-flip}
 use Rattle.sdjwt_view.proofs.Fits.{IsUsed, Fits, misses, misses-append}
 use Rattle.sdjwt_view.proofs.Reached.{reached_more, further, at_most_once}
 use Rattle.sdjwt_view.proofs.Walks.{members_fit, spells_fit}

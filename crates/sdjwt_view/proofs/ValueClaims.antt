@@ -13,7 +13,7 @@ use Rattle.claim_tree.specs.Tree.{element_marks, is_claim, are_claims}
 use Rattle.claim_tree.specs.Plain.{plain, plain_elements}
 use Rattle.claim_tree.proofs.Readings.{is_claim-read}
 use Rattle.base_forms.specs.Url64.{url64_bytes}
-use Rattle.distinct_texts.specs.Texts.{Utf8}
+use Rattle.base_forms.specs.Texts.{Utf8}
 use Rattle.sdjwt_view.specs.Disclosures.{json_in, salted}
 use Rattle.sdjwt_view.proofs.Claims.{IsSound}
 

@@ -10,7 +10,7 @@ use Rattle.serde_json.specs.Find.{as_str}
 use Rattle.claim_tree.specs.Tree.{Tree, ascend, is_claim, are_claims, hold_claims, member_names, element_marks}
 use Rattle.claim_tree.specs.Plain.{plain, plain_elements, plain_members as plain_fields}
 use Rattle.claim_tree.specs.Parts.{Part, Named}
-use Rattle.distinct_texts.specs.Texts.{Utf8}
+use Rattle.base_forms.specs.Texts.{Utf8}
 use Rattle.sdjwt_view.specs.Disclosures.{Disclosed, found}
 use Rattle.sdjwt_view.specs.Places.{sd, in_object, in_list, placeholder, is_placeholder, own_digests, places_in, places_among, places_under, is_mismatch, disclosed_names, gets_clash, has_clash, have_clash, holds_clash}
 use Rattle.sdjwt_view.specs.Spelling.{left_out}

@@ -5,7 +5,7 @@ use Rattle.serde_json.specs.Data.{Data}
 use Rattle.serde_json.specs.Find.{get, as_number, as_u64}
 use Rattle.serde_json.specs.Written.{compact_text, has_float}
 use Rattle.json_forms.specs.Look.{text_at, is_wrong, is_object}
-use Rattle.rule_tables.specs.Rules.{rule, first}
+use Rattle.base_forms.specs.Rules.{rule, first}
 
 -- a whole number from 0, in seconds from 1970
 abbrev pub moment_of : Data → Option ℕ

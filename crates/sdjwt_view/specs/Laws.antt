@@ -1,6 +1,6 @@
 -- The computed reading is the standard's relation.
 use Rattle.std.specs.Prelude.{◌≡◌, Some, None}
-use Rattle.distinct_texts.specs.Texts.{Utf8}
+use Rattle.base_forms.specs.Texts.{Utf8}
 use Rattle.sdjwt_view.specs.Reading.{Credential, refusal_of, credential_in}
 use Rattle.sdjwt_view.specs.Relation.{Reads}
 

@@ -3,7 +3,7 @@ use Rattle.std.specs.Prelude.{◌≡◌, List, map, Some, None}
 use Rattle.jws_envelope.specs.Envelope.{Envelope}
 use Rattle.sdjwt_view.specs.declared.front.Listed.{Listed}
 use Rattle.sdjwt_view.specs.declared.front.Listed.TheVariants.{Read, Broken}
-use Rattle.distinct_texts.specs.Texts.{Utf8}
+use Rattle.base_forms.specs.Texts.{Utf8}
 use Rattle.sdjwt_view.specs.Disclosures.{all_disclosed}
 use Rattle.sdjwt_view.specs.Reading.{hash_of, front_rule}
 use Rattle.sdjwt_view.specs.Said.{said}

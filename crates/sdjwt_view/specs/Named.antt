@@ -1,7 +1,7 @@
 -- Where a digest stands in a list.
 use Rattle.std.specs.Prelude.{ℕ, suc, List, [], ◌∷◌, Option, Some, None, option_map, string_bytes, if◌then◌else◌}
 use Rattle.std.specs.Str.{bytes_eq}
-use Rattle.distinct_texts.specs.Texts.{Utf8}
+use Rattle.base_forms.specs.Texts.{Utf8}
 use Rattle.sdjwt_view.specs.declared.disclosure.Disclosure.{Disclosure}
 
 abbrev pub own_digest : Disclosure → Utf8

@@ -6,7 +6,7 @@ use Rattle.std.specs.Str.{bytes_eq}
 use Rattle.serde_json.specs.Find.{as_str, as_array, as_object, get, get_member}
 use Rattle.serde_json.specs.Data.{Data, array, object, Items, no_items, item, Members, no_members, member}
 use Rattle.serde_json.specs.Events.{members_len}
-use Rattle.distinct_texts.specs.Texts.{Utf8, is_among, differ}
+use Rattle.base_forms.specs.Texts.{Utf8, is_among, differ}
 use Rattle.sdjwt_view.specs.Disclosures.{Disclosed, found}
 
 abbrev pub sd : Utf8

@@ -4,8 +4,8 @@ use Rattle.std.specs.List.{list_any, list_all}
 use Rattle.std.specs.Str.{bytes_eq}
 use Rattle.serde_json.specs.Data.{Data}
 use Rattle.serde_json.specs.Find.{as_object}
-use Rattle.rule_tables.specs.Rules.{rule, first}
-use Rattle.distinct_texts.specs.Texts.{Utf8, is_among, differ}
+use Rattle.base_forms.specs.Rules.{rule, first}
+use Rattle.base_forms.specs.Texts.{Utf8, is_among, differ}
 use Rattle.sdjwt_view.specs.Disclosures.{Disclosed}
 use Rattle.sdjwt_view.specs.Places.{sd, dots, is_sound, digest_at, all_places, are_placed, is_mismatch, own_digests, disclosed_names, has_clash}
 use Rattle.sdjwt_view.specs.Spelling.{sd_alg, spelled_payload}

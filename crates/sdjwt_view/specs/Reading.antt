@@ -6,7 +6,7 @@ use Rattle.std.specs.Option.{option_map_or}
 use Rattle.std.specs.Str.{bytes_eq}
 use Rattle.serde_json.specs.Data.{Data}
 use Rattle.serde_json.specs.Find.{get, as_str}
-use Rattle.rule_tables.specs.Rules.{rule, first}
+use Rattle.base_forms.specs.Rules.{rule, first}
 use Rattle.base_forms.specs.Hash.{hash_named}
 use Rattle.base_forms.specs.declared.hash.HashName.{HashName}
 use Rattle.base_forms.specs.declared.hash.HashName.TheVariants.{Sha256}
@@ -14,7 +14,7 @@ use Rattle.json_forms.specs.Look.{text_at}
 use Rattle.jws_envelope.specs.Compact.{dot_parts}
 use Rattle.jws_envelope.specs.Envelope.{Envelope, envelope_of, jws_rule, issuer_of}
 use Rattle.claim_tree.specs.Tree.{Tree, RecordOf}
-use Rattle.distinct_texts.specs.Texts.{Utf8}
+use Rattle.base_forms.specs.Texts.{Utf8}
 use Rattle.sdjwt_view.specs.Disclosures.{Disclosed, all_disclosed}
 use Rattle.claim_tree.specs.Parts.{Named, members_of}
 use Rattle.sdjwt_view.specs.Spelling.{sd_alg, spelled_payload}

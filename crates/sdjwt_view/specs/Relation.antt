@@ -11,7 +11,7 @@ use Rattle.jws_envelope.specs.Envelope.{Envelope, envelope_of, jws_rule}
 use Rattle.claim_tree.specs.Tree.{Tree, Text, Truth, Null, ListOf, RecordOf}
 use Rattle.claim_tree.specs.Plain.{plain_number}
 use Rattle.claim_tree.specs.Parts.{Part, Named, elements_of, members_of, put_member}
-use Rattle.distinct_texts.specs.Texts.{Utf8, is_among, differ}
+use Rattle.base_forms.specs.Texts.{Utf8, is_among, differ}
 use Rattle.sdjwt_view.specs.Disclosures.{Disclosed, all_disclosed, found}
 use Rattle.sdjwt_view.specs.Places.{placeholder, own_digests, gets_clash, digest_at, all_places, is_sound}
 use Rattle.sdjwt_view.specs.Placing.{names_mark, reserved}

@@ -9,7 +9,7 @@ ghost use Rattle.sdjwt_view.specs.Places.{own_digests, texts_in, disclosed_names
 
 use crate::disclosures::Disclosures;
 use crate::places::{entry, own_digests, placeholder};
-use distinct_texts::are_distinct;
+use base_forms::are_distinct;
 use serde_json::{Map, Value};
 use std::alloc::{AllocError, Global};
 

@@ -2,7 +2,7 @@
 ghost use Rattle.std.specs.Prelude.{◌≡◌, IfOk, map, option_map};
 ghost use Rattle.std.specs.Option.{IfSome, is_some};
 ghost use Rattle.serde_json.specs.View.{view};
-ghost use Rattle.distinct_texts.specs.Texts.{Utf8, differ};
+ghost use Rattle.base_forms.specs.Texts.{Utf8, differ};
 ghost use Rattle.sdjwt_view.specs.Disclosures.{found};
 ghost use Rattle.sdjwt_view.specs.Said.{said};
 ghost use Rattle.sdjwt_view.specs.Named.{own_digest, first_place};

@@ -13,7 +13,7 @@ use serde_json::Value;
 use std::alloc::{AllocError, Global};
 
 /// The first of the rules on type, dates and holder that is broken.
-#[tactic(auto, unfolding(rule_tables::specs::Rules::rule, crate::specs::Facts::facts_rule))]
+#[tactic(auto, unfolding(base_forms::specs::Rules::rule, crate::specs::Facts::facts_rule))]
 pub fn facts_rule(payload: &Value) -> Option<u8>
     ensures { result ≡ facts_rule (view payload.now) }
 {

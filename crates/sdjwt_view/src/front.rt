@@ -58,7 +58,7 @@ fn pieces<'t>(alloc: Global, text: &'t str) -> Result<Vec<&'t str>, AllocError>
 }
 
 /// What the disclosures of an issuer's JWS say.
-#[tactic(auto, unfolding(rule_tables::specs::Rules::rule, crate::specs::Reading::front_rule))]
+#[tactic(auto, unfolding(base_forms::specs::Rules::rule, crate::specs::Reading::front_rule))]
 pub fn read_list(alloc: Global, jws: &Jws<'_>, texts: &[&str]) -> Result<Listed, AllocError>
     ensures { IfOk result (λ listed. IsListed (envelope jws.now) (map (λ s. s.now) texts.now) listed) }
 {

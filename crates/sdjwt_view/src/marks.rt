@@ -11,7 +11,7 @@ use crate::places::placeholder;
 use serde_json::{Map, Value};
 
 /// The first of the rules on `_sd` and `...` that is broken.
-#[tactic(auto, unfolding(rule_tables::specs::Rules::rule, crate::specs::Placing::marks_rule))]
+#[tactic(auto, unfolding(base_forms::specs::Rules::rule, crate::specs::Placing::marks_rule))]
 pub fn marks_rule(payload: &Value, disclosures: &[Disclosure]) -> Option<u8>
     ensures { result ≡ marks_rule (view payload.now) (map said disclosures.now) }
 {

@@ -5,7 +5,7 @@ ghost use Rattle.std.specs.BTreeMap.{get_by};
 ghost use Rattle.std.specs.Ordering.{nat_cmp};
 ghost use Rattle.std.specs.Cmp.Lexicographic.{slice_cmp};
 ghost use Rattle.serde_json.specs.View.{view};
-ghost use Rattle.distinct_texts.specs.Texts.{is_among, differ};
+ghost use Rattle.base_forms.specs.Texts.{is_among, differ};
 ghost use Rattle.sdjwt_view.specs.Held.{all_said, place_of};
 ghost use Rattle.claim_tree.specs.Owned.{named_of};
 ghost use Rattle.sdjwt_view.specs.Places.{all_places, values_places, digest_at, are_reached, has_clash};
@@ -21,8 +21,8 @@ use crate::marks::marks_rule;
 use crate::places::{Place, gather};
 use crate::reach::{add_digests, has_mismatch, reach};
 use crate::spell::spell_members;
+use base_forms::{are_distinct, set_of};
 use claim_tree::OwnedMember;
-use distinct_texts::{are_distinct, set_of};
 use serde_json::Value;
 use std::alloc::{AllocError, Global};
 use std::collections::BTreeMap;
@@ -97,7 +97,7 @@ fn gather_values<'a>(list: &'a [Disclosure], places: &mut Vec<Place<'a>>) -> Res
 }
 
 // The rule that two places break which hold equal digests.
-#[tactic(auto, unfolding(rule_tables::specs::Rules::rule, crate::specs::Placing::double_rule))]
+#[tactic(auto, unfolding(base_forms::specs::Rules::rule, crate::specs::Placing::double_rule))]
 fn double_rule(
     alloc: Global,
     payload: &Value,
@@ -142,7 +142,7 @@ fn are_among(list: &[Disclosure], digests: &BTreeMap<&str, ()>) -> bool
 }
 
 // The first broken rule on the kinds and names of what is disclosed.
-#[tactic(auto, unfolding(rule_tables::specs::Rules::rule, crate::specs::Placing::names_rule))]
+#[tactic(auto, unfolding(base_forms::specs::Rules::rule, crate::specs::Placing::names_rule))]
 fn names_rule(
     alloc: Global,
     payload: &Value,

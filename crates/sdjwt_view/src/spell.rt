@@ -3,7 +3,7 @@ ghost use Rattle.std.specs.Prelude.{◌≡◌, ◌∷◌, [], IfOk, IfSome, Some
 ghost use Rattle.claim_tree.specs.Tree.{ascend};
 ghost use Rattle.serde_json.specs.View.{view, items_view, members_view, number_view};
 ghost use Rattle.claim_tree.specs.Plain.{plain_number};
-ghost use Rattle.distinct_texts.specs.Texts.{is_among};
+ghost use Rattle.base_forms.specs.Texts.{is_among};
 ghost use Rattle.sdjwt_view.specs.Disclosures.{found};
 ghost use Rattle.sdjwt_view.specs.Held.{all_said};
 ghost use Rattle.sdjwt_view.specs.Said.{said};

@@ -1,6 +1,6 @@
 use Rattle.std.proofs.Common.{◌≡◌, map, drop}
 use Rattle.serde_json.specs.View.{view}
-use Rattle.rule_tables.specs.Rules.{lesser}
+use Rattle.base_forms.specs.Rules.{lesser}
 use Rattle.dcql_query.specs.Table.{least_claim_rule}
 use Rattle.dcql_query.proofs.claim_rules.least_claim_rule.Given as goal
 

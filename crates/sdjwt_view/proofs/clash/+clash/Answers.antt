@@ -3,7 +3,7 @@ use Rattle.std.specs.List.{list_any}
 use Rattle.std.specs.Option.{is_some}
 use Rattle.serde_json.specs.Find.{get_member}
 use Rattle.serde_json.specs.View.{members_view}
-use Rattle.distinct_texts.specs.Texts.{differ}
+use Rattle.base_forms.specs.Texts.{differ}
 use Rattle.sdjwt_view.specs.Held.{all_said}
 use Rattle.sdjwt_view.proofs.Reaching.{clash_rest}
 use Rattle.sdjwt_view.proofs.clash.+clash.Goals as goal

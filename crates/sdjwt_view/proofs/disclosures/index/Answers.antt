@@ -3,9 +3,9 @@ use Rattle.std.proofs.lemmas.Grind.{common_steps}
 use Rattle.std.proofs.lemmas.Map.Text.{btree_map_updates_text}
 use Rattle.std.specs.BTreeMap.{get_by_text}
 use Rattle.std.specs.Option.{is_some}
-use Rattle.distinct_texts.specs.Texts.{differ, is_among}
+use Rattle.base_forms.specs.Texts.{differ, is_among}
 use Rattle.sdjwt_view.specs.Named.{own_digest, first_place}
-use Rattle.distinct_texts.proofs.Differing.{differ_push, differ_front, clashing}
+use Rattle.base_forms.proofs.Differing.{differ_push, differ_front, clashing}
 use Rattle.sdjwt_view.proofs.FirstPlaces.{is_some-first_place, none_there, digests_next, digests_rest, index_step, length_front}
 use Rattle.sdjwt_view.proofs.disclosures.index.Goals as goal
 

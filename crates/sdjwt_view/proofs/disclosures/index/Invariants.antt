@@ -1,6 +1,6 @@
 use Rattle.std.proofs.Common.{◌≡◌, take, map, true}
 use Rattle.std.specs.BTreeMap.{get_by_text}
-use Rattle.distinct_texts.specs.Texts.{Utf8, differ}
+use Rattle.base_forms.specs.Texts.{Utf8, differ}
 use Rattle.sdjwt_view.specs.Named.{own_digest, first_place}
 use Rattle.sdjwt_view.proofs.disclosures.index.Given as goal
 

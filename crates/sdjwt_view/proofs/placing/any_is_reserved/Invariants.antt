@@ -1,6 +1,6 @@
 use Rattle.std.proofs.Common.{◌≡◌, drop, map}
 use Rattle.std.specs.List.{list_any}
-use Rattle.distinct_texts.specs.Texts.{is_among}
+use Rattle.base_forms.specs.Texts.{is_among}
 use Rattle.sdjwt_view.specs.Placing.{reserved}
 use Rattle.sdjwt_view.proofs.placing.any_is_reserved.Given as goal
 

@@ -5,7 +5,7 @@ use Rattle.std.specs.BTreeMap.{get_by}
 use Rattle.std.specs.Cmp.Lexicographic.{slice_cmp}
 use Rattle.std.proofs.lemmas.List.{length-map}
 use Rattle.serde_json.specs.View.{view}
-use Rattle.distinct_texts.specs.Texts.{is_among}
+use Rattle.base_forms.specs.Texts.{is_among}
 use Rattle.sdjwt_view.specs.Held.{all_said}
 use Rattle.sdjwt_view.specs.Places.{reached}
 use Rattle.sdjwt_view.specs.Said.{said}

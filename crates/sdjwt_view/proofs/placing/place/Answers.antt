@@ -2,7 +2,7 @@ use Rattle.std.proofs.Common.{◌≡◌, false, None, Some, map, sym, ap, ◌∙
 use Rattle.std.specs.Prelude.{IfSome}
 use Rattle.std.specs.Option.{is_some}
 use Rattle.serde_json.specs.View.{view}
-use Rattle.distinct_texts.specs.Texts.{differ}
+use Rattle.base_forms.specs.Texts.{differ}
 use Rattle.sdjwt_view.specs.Held.{all_said}
 use Rattle.sdjwt_view.specs.Said.{said}
 use Rattle.sdjwt_view.specs.Placing.{marks_rule, double_rule, placing_rule, own_place_rule}

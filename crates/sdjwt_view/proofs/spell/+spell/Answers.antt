@@ -3,7 +3,7 @@ use Rattle.std.proofs.lemmas.Grind.{common_steps}
 use Rattle.std.proofs.lemmas.List.{map-append}
 use Rattle.serde_json.specs.Data.{member as field}
 use Rattle.serde_json.specs.View.{view, items_view, members_view}
-use Rattle.distinct_texts.specs.Texts.{Utf8, is_among}
+use Rattle.base_forms.specs.Texts.{Utf8, is_among}
 use Rattle.sdjwt_view.specs.Held.{all_said}
 use Rattle.claim_tree.specs.Owned.{tree_of, named_of}
 use Rattle.claim_tree.specs.Prefixed.{prefixed}
