@@ -43,43 +43,72 @@ fn asked(alloc: Global, store: &mut MemoryStore, texts: &[&str]) -> Result<(Stat
 }
 
 #[test]
-fn files_in_their_order(rt: HostRuntime) -> Result<(), Fail> {
+fn files_of_try(rt: HostRuntime) -> Result<(), Fail> {
     let alloc = rt.alloc();
-    for (word, query, other, status, names) in [
-        ("try", "q", "t", Status::NoOption, "q t "),
-        ("try", "q", "q", Status::NoOption, "q q "),
-        ("try", "", "t", Status::NoOption, " t "),
-        ("try", "none", "t", Status::ReadFault, "none "),
-        ("try", "long", "t", Status::FileRefused, "long "),
-        ("try", "x", "t", Status::FileRefused, "x "),
-        ("try", "q", "none", Status::ReadFault, "q none "),
-        ("try", "q", "x", Status::FileRefused, "q x "),
-        ("try", "broken", "t", Status::RequestRefused, "broken t "),
-        ("list", "q", "w", Status::NoOption, "q w x y x "),
-        ("list", "q", "empty", Status::NoOption, "q empty "),
-        ("list", "", "w", Status::NoOption, " w x y x "),
-        ("list", "q", "", Status::FileRefused, "q  "),
-        ("list", "none", "w", Status::ReadFault, "none "),
-        ("list", "x", "w", Status::FileRefused, "x "),
-        ("list", "q", "none", Status::ReadFault, "q none "),
-        ("list", "q", "t", Status::FileRefused, "q t "),
-        ("list", "q", "gap", Status::ReadFault, "q gap x none "),
-        ("list", "q", "past", Status::TooLong, "q past long "),
-        (
-            "list",
-            "broken",
-            "w",
-            Status::RequestRefused,
-            "broken w x y x ",
-        ),
-        ("Try", "q", "t", Status::Usage, ""),
-        ("lists", "q", "w", Status::Usage, ""),
+    for (query, trees, status, names) in [
+        ("q", "t", Status::NoOption, "q t "),
+        ("q", "q", Status::NoOption, "q q "),
+        ("", "t", Status::NoOption, " t "),
+        ("none", "t", Status::ReadFault, "none "),
+        ("long", "t", Status::FileRefused, "long "),
+        ("x", "t", Status::FileRefused, "x "),
+        ("q", "none", Status::ReadFault, "q none "),
+        ("q", "x", Status::FileRefused, "q x "),
+        ("broken", "t", Status::RequestRefused, "broken t "),
     ] {
         let mut store = stored(alloc)?;
-        let got = asked(alloc, &mut store, &[word, query, other])?;
-        assert_eq!(rt; got.0, status, "{word} {query} {other}");
+        let got = asked(alloc, &mut store, &["try", query, trees])?;
+        assert_eq!(rt; got.0, status, "{query} {trees}");
         assert_eq!(rt; got.1.as_str(), names);
     }
+    Ok(())
+}
+
+#[test]
+fn files_of_list(rt: HostRuntime) -> Result<(), Fail> {
+    let alloc = rt.alloc();
+    for (query, wallet, status, names) in [
+        ("q", "w", Status::NoOption, "q w x y x "),
+        ("q", "empty", Status::NoOption, "q empty "),
+        ("", "w", Status::NoOption, " w x y x "),
+        ("q", "", Status::FileRefused, "q  "),
+        ("none", "w", Status::ReadFault, "none "),
+        ("x", "w", Status::FileRefused, "x "),
+        ("q", "none", Status::ReadFault, "q none "),
+        ("q", "t", Status::FileRefused, "q t "),
+        ("q", "gap", Status::ReadFault, "q gap x none "),
+        ("q", "past", Status::TooLong, "q past long "),
+        ("broken", "w", Status::RequestRefused, "broken w x y x "),
+    ] {
+        let mut store = stored(alloc)?;
+        let got = asked(alloc, &mut store, &["list", query, wallet])?;
+        assert_eq!(rt; got.0, status, "{query} {wallet}");
+        assert_eq!(rt; got.1.as_str(), names);
+    }
+    Ok(())
+}
+
+#[test]
+fn no_file_for_usage(rt: HostRuntime) -> Result<(), Fail> {
+    let alloc = rt.alloc();
+    let mut store = stored(alloc)?;
+    let none: [&str; 0] = [];
+    assert_eq!(rt; asked(alloc, &mut store, &none)?.0, Status::Usage);
+    assert_eq!(rt; asked(alloc, &mut store, &["try"])?.0, Status::Usage);
+    assert_eq!(rt; asked(alloc, &mut store, &["list", "q"])?.0, Status::Usage);
+    assert_eq!(rt;
+        asked(alloc, &mut store, &["Try", "q", "t"])?.0,
+        Status::Usage
+    );
+    assert_eq!(rt;
+        asked(alloc, &mut store, &["lists", "q", "w"])?.0,
+        Status::Usage
+    );
+    assert_eq!(rt;
+        asked(alloc, &mut store, &["try", "q", "t", ""])?.0,
+        Status::Usage
+    );
+    assert!(rt; store.asked().is_empty());
     Ok(())
 }
 
@@ -99,15 +128,5 @@ fn up_to_a_fault(rt: HostRuntime) -> Result<(), Fail> {
         assert_eq!(rt; got.0, status);
         assert_eq!(rt; got.1.as_str(), names);
     }
-    let mut store = stored(alloc)?;
-    let none: [&str; 0] = [];
-    assert_eq!(rt; asked(alloc, &mut store, &none)?.0, Status::Usage);
-    assert_eq!(rt; asked(alloc, &mut store, &["try"])?.0, Status::Usage);
-    assert_eq!(rt; asked(alloc, &mut store, &["list", "q"])?.0, Status::Usage);
-    assert_eq!(rt;
-        asked(alloc, &mut store, &["try", "q", "t", ""])?.0,
-        Status::Usage
-    );
-    assert!(rt; store.asked().is_empty());
     Ok(())
 }
