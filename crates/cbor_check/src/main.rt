@@ -17,7 +17,13 @@ const NO_MEMORY: u8 = 15;
 
 fn main(rt: HostRuntime) -> io::Result<ExitCode> {
     let alloc = rt.alloc();
-    let text = io::read_to_string(alloc, rt.stdin())?;
+    let text = match io::read_to_string(alloc, rt.stdin()) {
+        Ok(text) => text,
+        Err(error) if error.kind() == io::ErrorKind::OutOfMemory => {
+            return Ok(ExitCode::from(NO_MEMORY));
+        }
+        Err(error) => return Err(error),
+    };
     match answers(alloc, text.as_str()) {
         Ok(answers) => {
             print!(rt; "{answers}")?;

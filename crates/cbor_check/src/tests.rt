@@ -188,6 +188,25 @@ fn writes_a_list(rt: HostRuntime) -> Result<(), Fail> {
 }
 
 #[test]
+fn writes_what_is_empty(rt: HostRuntime) -> Result<(), Fail> {
+    let mut writer = Writer::new(rt.alloc());
+    writer.list(0)?;
+    writer.text("")?;
+    writer.bytes(&[])?;
+    writer.sorted_map(&[])?;
+    writer.raw(&[])?;
+    writer.truth(false)?;
+    writer.whole(0)?;
+    writer.tag(0)?;
+    assert_eq!(rt;
+        writer.finish().as_slice(),
+        [0x80, 0x60, 0x40, 0xa0, 0xf4, 0x00, 0xc0].as_slice()
+    );
+    assert!(rt; Writer::new(rt.alloc()).finish().is_empty());
+    Ok(())
+}
+
+#[test]
 fn reads_what_it_writes(rt: HostRuntime) -> Result<(), Fail> {
     let bytes = written(rt.alloc())?;
     let list = read_one(rt.alloc(), &bytes, 2)?;
