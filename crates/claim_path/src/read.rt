@@ -1,5 +1,5 @@
 // Paths and values from JSON.
-ghost use Rattle.std.specs.Prelude.{◌≡◌, Ok, IfOk, IfErr, map, filter_map, is_some, option_map};
+ghost use Rattle.std.specs.Prelude.{◌≡◌, Ok, IfOk, IfErr, map, filter_map, is_some, option_map, nat_lt, length};
 ghost use Rattle.serde_json.specs.View.{view};
 ghost use Rattle.json_forms.specs.Look.{elements_of};
 ghost use Rattle.claim_path.specs.Read.{step_of, are_steps, are_scalars, path_rule, path_of, scalar_of, values_rule, values_of};
@@ -85,7 +85,7 @@ pub fn path_rule(value: &Value) -> Option<u8>
         Some(2)
     } else if !are_steps(steps) {
         Some(3)
-    } else if steps.len() > MOST_STEPS {
+    } else if are_too_many_steps(steps) {
         Some(4)
     } else {
         None
@@ -103,11 +103,23 @@ pub fn values_rule(value: &Value) -> Option<u8>
         Some(1)
     } else if !are_scalars(members) {
         Some(1)
-    } else if members.len() > MOST_VALUES {
+    } else if are_too_many_values(members) {
         Some(1)
     } else {
         None
     }
+}
+
+fn are_too_many_steps(steps: &[Value]) -> bool
+    ensures { result ≡ nat_lt 16 (length steps.now) }
+{
+    steps.len() > MOST_STEPS
+}
+
+fn are_too_many_values(values: &[Value]) -> bool
+    ensures { result ≡ nat_lt 32 (length values.now) }
+{
+    values.len() > MOST_VALUES
 }
 
 fn are_steps(values: &[Value]) -> bool

@@ -1,5 +1,5 @@
 // The rules of the claims of a credential query.
-ghost use Rattle.std.specs.Prelude.{◌≡◌, map, codes};
+ghost use Rattle.std.specs.Prelude.{◌≡◌, map, codes, nat_lt, length};
 ghost use Rattle.serde_json.specs.View.{view};
 ghost use Rattle.serde_json.specs.Find.{get};
 ghost use Rattle.json_forms.specs.Look.{is_wrong};
@@ -24,7 +24,7 @@ pub(crate) fn claims_rule(query: &Value) -> Option<u8>
     if has_wrong_claims(query) {
         return Some(10);
     }
-    if claims.len() > MOST_CLAIMS {
+    if are_too_many_claims(claims) {
         return Some(11);
     }
     if !are_right_ids(claims) {
@@ -34,6 +34,12 @@ pub(crate) fn claims_rule(query: &Value) -> Option<u8>
         return Some(13);
     }
     least_claim_rule(claims, has_format(query, "mso_mdoc"))
+}
+
+fn are_too_many_claims(claims: &[Value]) -> bool
+    ensures { result ≡ nat_lt 64 (length claims.now) }
+{
+    claims.len() > MOST_CLAIMS
 }
 
 fn has_wrong_claims(query: &Value) -> bool

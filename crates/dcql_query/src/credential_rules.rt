@@ -1,5 +1,5 @@
 // The rules of a credential query.
-ghost use Rattle.std.specs.Prelude.{◌≡◌, map, codes};
+ghost use Rattle.std.specs.Prelude.{◌≡◌, map, codes, nat_lt, length};
 ghost use Rattle.serde_json.specs.View.{view};
 ghost use Rattle.serde_json.specs.Find.{get};
 ghost use Rattle.json_forms.specs.Look.{is_wrong};
@@ -97,7 +97,7 @@ fn sets_rule(query: &Value) -> Option<u8>
     if has_wrong_sets(query) {
         return Some(17);
     }
-    if sets.len() > MOST_CLAIM_SETS {
+    if are_too_many_sets(sets) {
         return Some(18);
     }
     if query.get("claim_sets").is_some() && !all_have_ids(claims) {
@@ -107,6 +107,12 @@ fn sets_rule(query: &Value) -> Option<u8>
         return Some(20);
     }
     None
+}
+
+fn are_too_many_sets(sets: &[Value]) -> bool
+    ensures { result ≡ nat_lt 32 (length sets.now) }
+{
+    sets.len() > MOST_CLAIM_SETS
 }
 
 fn has_wrong_sets(query: &Value) -> bool

@@ -1,5 +1,5 @@
 // The rules of a whole query, and the least that is broken.
-ghost use Rattle.std.specs.Prelude.{◌≡◌, map};
+ghost use Rattle.std.specs.Prelude.{◌≡◌, map, nat_lt, length};
 ghost use Rattle.serde_json.specs.View.{view};
 ghost use Rattle.dcql_query.specs.Table.{least_credential_rule, query_rule};
 
@@ -22,7 +22,7 @@ pub(crate) fn query_rule(value: &Value) -> Option<u8>
     if queries.is_empty() {
         return Some(1);
     }
-    if queries.len() > MOST_QUERIES {
+    if are_too_many_queries(queries) {
         return Some(2);
     }
     if !all_have_right_ids(queries) {
@@ -41,6 +41,12 @@ pub(crate) fn query_rule(value: &Value) -> Option<u8>
         return Some(22);
     }
     None
+}
+
+fn are_too_many_queries(queries: &[Value]) -> bool
+    ensures { result ≡ nat_lt 16 (length queries.now) }
+{
+    queries.len() > MOST_QUERIES
 }
 
 fn least_credential_rule(queries: &[Value]) -> Option<u8>
