@@ -1,8 +1,7 @@
-pub mod Causes
-pub mod MemorySink
-pub mod MemoryStore
-pub mod Real
+pub mod Calls
+pub mod Faults
 pub mod Sink
 pub mod Status
 pub mod Store
 pub mod Words
+pub mod code

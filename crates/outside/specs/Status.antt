@@ -1,7 +1,9 @@
 -- The exit status of each way to end.
 use Rattle.std.specs.Prelude.{ℕ}
 use Rattle.outside.specs.declared.status.Status.{Status}
-use Rattle.outside.specs.declared.status.Status.TheVariants.{Done, Usage, RequestRefused, NoOption, ReadFault, WriteFault, FileRefused, TooLong, NoMemory, NotOne}
+use Rattle.outside.specs.declared.status.Status.TheVariants.{Done, Usage, RequestRefused, NoOption, ReadFault}
+use Rattle.outside.specs.declared.status.Status.TheVariants.{WriteFault, FileRefused, TooLong, NoMemory}
+use Rattle.outside.specs.declared.status.Status.TheVariants.{NotOne}
 
 abbrev pub code_of : Status → ℕ
 code_of Done = 0

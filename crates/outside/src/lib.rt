@@ -1,9 +1,10 @@
-//! What lies outside a program: the words that it is called with and, as traits whose calls may fail, a store of named files and a
-//! sink for bytes.
+//! What lies outside a program: the words that it is called with and, as traits whose calls may fail, a store
+//! of named files and a sink for bytes.
 //!
-//! Each object counts its faults, so that a contract can say that a failure was answered only where the
-//! object failed. There are forms in memory, which tell all that they hold, and forms over the system,
-//! which tell nothing.
+//! Each object has one ghost member, its state: what it holds and what it was asked, each where the object
+//! tells it, and a count of its faults. The contract of a call is one relation between the states before and
+//! after it and what it answers. There are forms in memory, which tell all, and forms over the system, which
+//! tell nothing and count.
 #![tactic(auto)]
 
 mod arguments;
@@ -18,11 +19,8 @@ mod store;
 pub use arguments::words;
 pub use error::{Failed, NoMemory, StoreError};
 pub use memory_sink::MemorySink;
-pub use memory_store::MemoryStore;
-pub use real::{FileStore, OutSink};
+pub use memory_store::{FileRead, MemoryStore};
+pub use real::{FileStore, OutSink, cause_of, read_within};
 pub use sink::{Sink, put_all};
 pub use status::Status;
 pub use store::Store;
-
-#[cfg(test)]
-mod tests;

@@ -21,9 +21,9 @@ pub enum Status {
     FileRefused,
     /// A file has more bytes than its limit.
     TooLong,
-    /// Want of memory.
+    /// Out of memory.
     NoMemory,
-    /// The query has not one credential query.
+    /// The query has no credential query, or more than one.
     NotOne,
 }
 

@@ -1,3 +1,2 @@
-pub mod Asking
-pub mod CutLines
-pub mod Plans
+pub mod EndLaws
+pub mod Stops

@@ -1,8 +1,6 @@
-pub mod Asking
 pub mod Ends
-pub mod Lines
+pub mod Files
+pub mod Laws
 pub mod Outcome
 pub mod Own
-pub mod Plan
-pub mod Reading
-pub mod Replies
+pub mod code

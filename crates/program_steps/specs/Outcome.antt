@@ -2,7 +2,10 @@
 use Rattle.std.specs.Prelude.{ℕ, List, [], ◌∷◌, ◌++◌, codes}
 use Rattle.std.specs.Fmt.{decimal}
 use Rattle.outside.specs.declared.status.Status.{Status}
-use Rattle.outside.specs.declared.status.Status.TheVariants.{Usage, RequestRefused, ReadFault, FileRefused, TooLong}
+use Rattle.outside.specs.declared.status.Status.TheVariants.{Usage, RequestRefused, ReadFault, WriteFault}
+use Rattle.outside.specs.declared.status.Status.TheVariants.{FileRefused, TooLong}
+use Rattle.runs.specs.declared.fault.Fault.{Fault}
+use Rattle.runs.specs.declared.fault.Fault.TheVariants.{Read, Write}
 
 pub record Outcome : Type 0 where
   pub status : Status
@@ -19,9 +22,14 @@ line text = text ++ 10 ∷ []
 abbrev pub usage : Outcome
 usage = ends_with Usage (line (codes "usage"))
 
--- the store failed
-abbrev pub read_fault : Outcome
-read_fault = ends_with ReadFault (line (codes "read fault"))
+-- An object failed. Where it is the sink, nothing more is printed.
+abbrev pub fault_line : Fault → Outcome
+fault_line Read = ends_with ReadFault (line (codes "read fault"))
+fault_line Write = ends_with WriteFault []
+
+-- the status of a fault
+abbrev pub fault_status : Fault → Status
+fault_status f = (fault_line f).status
 
 -- the query breaks a rule
 abbrev pub query_refused : ℕ → Outcome
@@ -33,4 +41,5 @@ too_long name = ends_with TooLong (line (codes "too long " ++ name))
 
 -- the line with this number, from 1, is not of the file's form
 abbrev pub file_refused : List ℕ → ℕ → Outcome
-file_refused name number = ends_with FileRefused (line (codes "file refused " ++ (name ++ (codes " " ++ decimal number))))
+file_refused name number =
+    ends_with FileRefused (line (codes "file refused " ++ (name ++ (codes " " ++ decimal number))))

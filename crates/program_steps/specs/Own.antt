@@ -1,7 +1,9 @@
 -- The statuses that a command chooses itself, once its words are read and no object has failed.
 use Rattle.std.specs.Prelude.{Bool, true, false}
 use Rattle.outside.specs.declared.status.Status.{Status}
-use Rattle.outside.specs.declared.status.Status.TheVariants.{Done, Usage, RequestRefused, NoOption, ReadFault, WriteFault, FileRefused, TooLong, NoMemory, NotOne}
+use Rattle.outside.specs.declared.status.Status.TheVariants.{Done, Usage, RequestRefused, NoOption, ReadFault}
+use Rattle.outside.specs.declared.status.Status.TheVariants.{WriteFault, FileRefused, TooLong, NoMemory}
+use Rattle.outside.specs.declared.status.Status.TheVariants.{NotOne}
 
 abbrev pub is_own : Status → Bool
 is_own Done = true

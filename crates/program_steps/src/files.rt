@@ -1,35 +1,30 @@
 // The reading of a file.
-ghost use Rattle.std.specs.Prelude.{◌≡◌, ◌≤◌, ◌∷◌, [], ℕ, List, Some, length, IfOk, IfErr, IfSome, option_map};
-ghost use Rattle.program_steps.specs.Asking.{AsksFor};
-ghost use Rattle.program_steps.specs.Outcome.{too_long};
-ghost use Rattle.program_steps.specs.Reading.{within_limit, text_in};
-ghost use Rattle.program_steps.specs.Replies.{CountsFault, Refuses, IsReadCause};
+ghost use Rattle.std.specs.Prelude.{◌≡◌, option_map};
+ghost use Rattle.program_steps.specs.Files.{read_file, text_in};
+ghost use Rattle.program_steps.specs.code.Endings.{ending};
+ghost use Rattle.runs.specs.Runs.{Runs};
+ghost use Rattle.runs.specs.World.{World};
 
 use super::refusals::too_long;
-use super::stop::{Fault, Stop};
+use super::stop::Stop;
 use outside::{Store, StoreError};
+use runs::Fault;
 use std::alloc::Global;
 
 /// The bytes of a file that has no more than `limit` of them.
 ///
 /// # Errors
 ///
-/// A refusal where it has more; a fault of the store; want of memory.
+/// A refusal where it has more; a fault of the store; out of memory.
+#[tactic(auto, unfolding(runs::specs::Runs::Runs))]
 pub fn read_file<S: Store>(
     alloc: Global,
     store: &mut S,
     name: &str,
     limit: usize,
 ) -> Result<Vec<u8>, Stop>
-    ensures same { S.files store.new ≡ S.files store.old }
-    ensures later { (other : List ℕ) → S.faults store.old other ≤ S.faults store.new other }
-    ensures counts { CountsFault (S.faults store.old) (S.faults store.new) result }
-    ensures asked { AsksFor (S.faults store.old) (S.faults store.new) (S.asked store.old) (S.asked store.new) (name.now ∷ []) result }
-    ensures within { IfOk result (λ bytes. length bytes.items ≤ limit) }
-    ensures file { IfSome (S.files store.old) (λ files. IfOk result (λ bytes. files name.now ≡ Some bytes.items)) }
-    ensures refusal { IfSome (S.files store.old) (λ files. IfErr result (λ stop. Refuses (within_limit limit name.now (files name.now)) stop)) }
-    ensures long { IfErr result (λ stop. Refuses (Some (too_long name.now)) stop) }
-    ensures cause { IfErr result (λ stop. IsReadCause (S.faults store.old name.now) (S.faults store.new name.now) stop) }
+    ensures { (w : World) → Runs (read_file limit name.now) (record w { store = S.state store.old })
+        (record w { store = S.state store.new }) (ending (λ bytes. bytes.items) result) }
 {
     match store.read(alloc, name, limit) {
         Ok(bytes) => Ok(bytes),

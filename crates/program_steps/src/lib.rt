@@ -1,23 +1,24 @@
-//! What the programs of this repository share: the steps of a command, the reading of a file within its limit, the lines of
-//! a file, and the end of a run.
+//! What the programs of this repository share: the reading of a file within its limit, the refusals
+//! that are printed, and the end of a run.
 //!
-//! A command is defined by its plan (`specs/Plan.antt`): what it asks of the objects that are passed in, in its order,
-//! with what ends it at each step, and what it answers where nothing does.
+//! A command is defined by its tree of questions (crate `runs`). `Ran` (`specs/Ends.antt`) says of a whole
+//! run that the tree of the words was run and that its end was written. What follows of it is proved once, in
+//! [`statuses_have_causes`], [`usage_is_no_command`], [`ends_complete`], [`asks_in_order`] and
+//! [`counts_stay`].
 #![tactic(auto)]
 
-mod ending;
 mod files;
-mod lines;
+mod laws;
+mod printing;
 mod refusals;
 mod reply;
 mod stop;
 
-pub use ending::finish;
 pub use files::{read_file, text_of};
-pub use lines::cut_line;
+pub use laws::{
+    asks_in_order, counts_stay, ends_complete, statuses_have_causes, usage_is_no_command,
+};
+pub use printing::{close, finish};
 pub use refusals::{file_refused, query_refused, too_long};
 pub use reply::Reply;
-pub use stop::{Fault, Stop};
-
-#[cfg(test)]
-mod tests;
+pub use stop::Stop;

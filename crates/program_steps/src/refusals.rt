@@ -1,7 +1,7 @@
 // The refusals that the programs share.
 ghost use Rattle.std.specs.Prelude.{◌≡◌, IfOk};
 ghost use Rattle.program_steps.specs.Outcome.{too_long, file_refused, query_refused};
-ghost use Rattle.program_steps.specs.Replies.{outcome};
+ghost use Rattle.program_steps.specs.code.Endings.{outcome};
 
 use super::reply::Reply;
 use outside::Status;

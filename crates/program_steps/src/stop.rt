@@ -3,14 +3,8 @@ ghost use Rattle.std.specs.Prelude.{◌≡◌};
 ghost use Rattle.program_steps.specs.declared.stop.Stop.TheVariants.{NoMemory};
 
 use super::reply::Reply;
+use runs::Fault;
 use std::alloc::{AllocError, AllocFailed};
-
-/// An object that was passed in and failed.
-#[derive(Clone, Copy, Debug, PartialEq, Eq)]
-pub enum Fault {
-    /// The store.
-    Read,
-}
 
 /// What ends a command early.
 #[derive(Drop)]
@@ -19,7 +13,7 @@ pub enum Stop {
     Refused(Reply),
     /// An object failed.
     Failed(Fault),
-    /// Want of memory.
+    /// Out of memory.
     NoMemory,
 }
 

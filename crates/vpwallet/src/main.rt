@@ -1,18 +1,16 @@
 //! The program `vpwallet`: the wallet over the files of the system and the standard output.
 #![tactic(auto)]
 
-use outside::{FileStore, OutSink, Status, words};
+use outside::{FileStore, OutSink};
 use std::env;
 use std::process::ExitCode;
-use wallet_top::run;
+use wallet_top::exit_code;
 
 fn main(rt: HostRuntime) -> ExitCode {
-    let alloc = rt.alloc();
-    let Ok(words) = words(alloc, env::args(&rt)) else {
-        return ExitCode::from(Status::NoMemory.code());
-    };
-    let mut store = FileStore::new(rt);
-    let mut out = OutSink::new(rt);
-    let status = run(alloc, &words, &mut store, &mut out);
-    ExitCode::from(status.code())
+    exit_code(
+        rt.alloc(),
+        env::args(&rt),
+        &mut FileStore::new(rt),
+        &mut OutSink::new(rt),
+    )
 }

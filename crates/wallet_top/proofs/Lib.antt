@@ -1,4 +1,3 @@
-pub mod Askings
+pub mod CommandRuns
 pub mod Feeds
-pub mod Listings
-pub mod ListPlans
+pub mod NoFaultPassed

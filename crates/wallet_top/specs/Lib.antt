@@ -1,9 +1,11 @@
-pub mod Asked
 pub mod Command
-pub mod Entries
-pub mod Lines
+pub mod CredentialFile
+pub mod Laws
+pub mod Limits
 pub mod Listing
-pub mod Meaning
 pub mod Met
+pub mod Program
+pub mod QueryFile
 pub mod Try
 pub mod Wallet
+pub mod code

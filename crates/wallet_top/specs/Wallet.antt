@@ -1,15 +1,15 @@
 -- The wallet file: the files of the credentials, with their formats.
-use Rattle.std.specs.Prelude.{ℕ, ◌==◌, List, [], ◌∷◌, Bool, Option, Some, None, is_none, if◌then◌else◌, codes}
+use Rattle.std.specs.Prelude.{ℕ, ◌==◌, List, [], ◌∷◌, Bool, Option, Some, None, is_none, if◌then◌else◌}
+use Rattle.std.specs.Prelude.{option_map, codes}
 use Rattle.std.specs.List.{before_first, after_first}
-use Rattle.std.specs.Option.{option_map_or}
 use Rattle.std.specs.Str.{bytes_eq, is_utf8}
 use Rattle.claim_tree.specs.declared.facts.Format.{Format}
 use Rattle.claim_tree.specs.declared.facts.Format.TheVariants.{SdJwt, Mdoc}
-use Rattle.program_steps.specs.Lines.{lines_of, first_bad}
-
--- how many credentials it may have
-abbrev pub most_credentials : ℕ
-most_credentials = 64
+use Rattle.program_steps.specs.Files.{read_file}
+use Rattle.base_forms.specs.Lines.{lines_of, first_bad}
+use Rattle.program_steps.specs.Outcome.{Outcome, file_refused}
+use Rattle.runs.specs.Tree.{Tree, gives, bind, unless}
+use Rattle.wallet_top.specs.Limits.{file_limit, most_credentials}
 
 -- a credential's format and the name of its file
 pub record Entry : Type 0 where
@@ -38,11 +38,13 @@ entry_with (Some format) (byte ∷ bytes) = Some (entry format (byte ∷ bytes))
 abbrev pub entry_of : List ℕ → Option Entry
 entry_of line = entry_with (format_named (before_first is_blank line)) (after_first is_blank line)
 
--- the number of the first line that is no entry, or stands past the limit; the first of these lines has this number
+-- the number of the first line that is no entry, or stands past the limit; the first of these lines has this
+-- number
 abbrev pub bad_entry : ℕ → List (List ℕ) → Option ℕ
 bad_entry number lines = first_bad most_credentials (λ line. is_none (entry_of line)) number lines
 
--- it is a text whose lines are entries, else its first line that is none is refused, or line 1 where it is no text
+-- the file is a text whose lines are entries, else its first line that is none is refused, or line 1 where it
+-- is no text
 abbrev pub bad_wallet : List ℕ → Option ℕ
 bad_wallet bytes = if is_utf8 bytes then bad_entry 1 (lines_of bytes) else Some 1
 
@@ -55,6 +57,8 @@ abbrev pub entries_of : List (List ℕ) → List Entry
 entries_of [] = []
 entries_of (line ∷ lines) = with_entry (entry_of line) (entries_of lines)
 
--- the entries of a wallet file
-abbrev pub entries_in : Option (List ℕ) → List Entry
-entries_in bytes = option_map_or (λ b. entries_of (lines_of b)) bytes []
+-- The wallet file is read, and its lines must be entries.
+abbrev pub read_wallet : List ℕ → Tree Outcome (List Entry)
+read_wallet name =
+    bind (read_file file_limit name) (λ bytes.
+    unless (option_map (file_refused name) (bad_wallet bytes)) (gives (entries_of (lines_of bytes))))

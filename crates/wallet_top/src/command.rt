@@ -1,7 +1,7 @@
 // The words of a command.
 ghost use Rattle.std.specs.Prelude.{◌≡◌, ◌∷◌, [], map, option_map, string_bytes};
 ghost use Rattle.wallet_top.specs.Command.{command_of};
-ghost use Rattle.wallet_top.specs.Meaning.{meaning};
+ghost use Rattle.wallet_top.specs.code.Commands.{meaning};
 
 /// What is to be done.
 #[derive(Clone, Copy)]

@@ -2,10 +2,11 @@
 ghost use Rattle.std.specs.Prelude.{◌≡◌, IfOk, option_map};
 ghost use Rattle.std.specs.Option.{option_copied};
 ghost use Rattle.claim_tree.specs.Tree.{Tree};
-ghost use Rattle.wallet_top.specs.Listing.{tree_finding, sd_finding, bytes_finding, without_feed, document_in, file_finding};
+ghost use Rattle.wallet_top.specs.CredentialFile.{tree_finding, sd_finding, bytes_finding, without_feed};
+ghost use Rattle.wallet_top.specs.CredentialFile.{document_in, file_finding, finding_for};
 
 use crate::finding::Finding;
-use crate::matching::has_asked;
+use crate::matching::is_met;
 use base_forms::from_url64;
 use claim_tree::{ClaimView, Format};
 use dcql_query::CredentialQuery;
@@ -14,46 +15,58 @@ use program_steps::text_of;
 use sdjwt_view::SdCredential;
 use std::alloc::{AllocError, Global};
 
-/// What a credential file of this format with these bytes comes to.
-pub fn judge_file(
+/// What a credential file of this format with these bytes comes to. Nothing is looked at where nothing is
+/// wanted.
+pub fn examine_for(
     alloc: Global,
+    wanted: Option<&CredentialQuery>,
     format: Format,
-    asked: Option<&CredentialQuery>,
     bytes: Vec<u8>,
 ) -> Result<Finding, AllocError>
-    ensures { IfOk result (λ finding. finding ≡ file_finding format (option_copied asked.entry) bytes.items) }
+    ensures { IfOk result (λ finding. finding ≡ finding_for (option_copied wanted.entry) format bytes.items) }
 {
-    match format {
-        Format::SdJwt => judge_sd_jwt_file(alloc, asked, &bytes),
-        Format::Mdoc => judge_mdoc_file(alloc, asked, bytes),
+    match wanted {
+        Some(query) => examine(alloc, format, query, bytes),
+        None => Ok(Finding::NoMatch),
     }
 }
 
-fn judge_sd_jwt_file(
+fn examine(
     alloc: Global,
-    asked: Option<&CredentialQuery>,
-    bytes: &[u8],
+    format: Format,
+    query: &CredentialQuery,
+    bytes: Vec<u8>,
 ) -> Result<Finding, AllocError>
-    ensures { IfOk result (λ finding. finding ≡ file_finding Format.SdJwt (option_copied asked.entry) bytes.now) }
+    ensures { IfOk result (λ finding. finding ≡ file_finding format query.now bytes.items) }
+{
+    match format {
+        Format::SdJwt => examine_text(alloc, query, &bytes),
+        Format::Mdoc => examine_encoded(alloc, query, bytes),
+    }
+}
+
+// A file that is to be the text of an SD-JWT credential.
+fn examine_text(alloc: Global, query: &CredentialQuery, bytes: &[u8]) -> Result<Finding, AllocError>
+    ensures { IfOk result (λ finding. finding ≡ file_finding Format.SdJwt query.now bytes.now) }
 {
     match text_of(bytes) {
-        Some(text) => judge_sd_jwt(alloc, asked, without_feed(text)),
+        Some(text) => examine_sd_jwt(alloc, query, without_feed(text)),
         None => Ok(Finding::Unreadable(0)),
     }
 }
 
-// The bytes of the file are let go before what they encode is read.
-fn judge_mdoc_file(
+// A file that is to be the base64url of a mobile document. Its bytes are let go before the document is read.
+fn examine_encoded(
     alloc: Global,
-    asked: Option<&CredentialQuery>,
+    query: &CredentialQuery,
     bytes: Vec<u8>,
 ) -> Result<Finding, AllocError>
-    ensures { IfOk result (λ finding. finding ≡ file_finding Format.Mdoc (option_copied asked.entry) bytes.items) }
+    ensures { IfOk result (λ finding. finding ≡ file_finding Format.Mdoc query.now bytes.items) }
 {
     let decoded = decode(alloc, &bytes)?;
     drop(bytes);
     match decoded {
-        Some(document) => judge_document(alloc, asked, &document),
+        Some(document) => examine_mdoc(alloc, query, &document),
         None => Ok(Finding::Unreadable(0)),
     }
 }
@@ -68,15 +81,11 @@ fn without_feed(text: &str) -> &str
     }
 }
 
-fn judge_sd_jwt(
-    alloc: Global,
-    asked: Option<&CredentialQuery>,
-    text: &str,
-) -> Result<Finding, AllocError>
-    ensures { IfOk result (λ finding. finding ≡ sd_finding (option_copied asked.entry) text.now) }
+fn examine_sd_jwt(alloc: Global, query: &CredentialQuery, text: &str) -> Result<Finding, AllocError>
+    ensures { IfOk result (λ finding. finding ≡ sd_finding query.now text.now) }
 {
     match SdCredential::read(alloc, text) {
-        Ok(credential) => Ok(judge_tree(asked, credential.root())),
+        Ok(credential) => Ok(match_of(query, credential.root())),
         Err(sdjwt_view::Error::Refused(rule)) => Ok(Finding::Unreadable(rule)),
         Err(sdjwt_view::Error::Envelope(_)) => Ok(Finding::Unreadable(2)),
         Err(sdjwt_view::Error::NoMemory) => Err(AllocError),
@@ -97,15 +106,11 @@ fn decode(alloc: Global, bytes: &[u8]) -> Result<Option<Vec<u8>>, AllocError>
     }
 }
 
-fn judge_document(
-    alloc: Global,
-    asked: Option<&CredentialQuery>,
-    bytes: &[u8],
-) -> Result<Finding, AllocError>
-    ensures { IfOk result (λ finding. finding ≡ bytes_finding (option_copied asked.entry) bytes.now) }
+fn examine_mdoc(alloc: Global, query: &CredentialQuery, bytes: &[u8]) -> Result<Finding, AllocError>
+    ensures { IfOk result (λ finding. finding ≡ bytes_finding query.now bytes.now) }
 {
     match MdCredential::read(alloc, bytes) {
-        Ok(credential) => Ok(judge_tree(asked, credential.root())),
+        Ok(credential) => Ok(match_of(query, credential.root())),
         Err(mdoc_view::Error::Refused(rule)) => Ok(Finding::Unreadable(rule)),
         Err(mdoc_view::Error::Cbor(_)) => Ok(Finding::Unreadable(1)),
         Err(mdoc_view::Error::Cose(_)) => Ok(Finding::Unreadable(3)),
@@ -113,10 +118,10 @@ fn judge_document(
     }
 }
 
-fn judge_tree<'a, V: ClaimView<'a>>(asked: Option<&CredentialQuery>, root: V) -> Finding
-    ensures { result ≡ tree_finding (option_copied asked.entry) (V.tree root) }
+fn match_of<'a, V: ClaimView<'a>>(query: &CredentialQuery, root: V) -> Finding
+    ensures { result ≡ tree_finding query.now (V.tree root) }
 {
-    if has_asked(asked, root) {
+    if is_met(query, root) {
         Finding::Match
     } else {
         Finding::NoMatch

@@ -5,8 +5,8 @@
 pub enum Finding {
     /// It is no credential of its format, by the rule of this number; 0 where its file is no text.
     Unreadable(u8),
-    /// It has what is asked for.
+    /// Its claim tree has what the query wants.
     Match,
-    /// It has not.
+    /// Its claim tree lacks what the query wants, or the query wants nothing.
     NoMatch,
 }

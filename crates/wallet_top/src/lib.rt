@@ -1,19 +1,25 @@
 //! The wallet: all that the program `vpwallet` does, over a store and a sink that are passed in.
 //!
-//! A command is defined by its plan in `specs/`; [`run`] says what of it is written and answered.
+//! A command is defined by its tree of questions in `specs/`; [`run`] says that it is run, and that its end
+//! is written.
 #![tactic(auto)]
 
 mod command;
 mod credential_file;
-mod ending;
 mod finding;
-mod line_error;
+mod laws;
+mod limits;
+mod line_stop;
 mod listing;
 mod matching;
+mod program;
 mod query_file;
+mod replies;
 mod top;
-mod trees;
+mod tree_lines;
 mod trying;
 mod wallet;
 
+pub use laws::passes_no_fault;
+pub use program::exit_code;
 pub use top::run;

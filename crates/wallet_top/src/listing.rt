@@ -1,146 +1,143 @@
 // The command `list`: which credentials of a wallet match a query of one credential.
-ghost use Rattle.std.specs.Prelude.{◌≡◌, ◌≤◌, ◌∷◌, [], ◌++◌, ◌||◌, ℕ, List, None, map, IfOk, IfErr, IfSome, string_bytes};
+ghost use Rattle.std.specs.Prelude.{◌≡◌, ◌++◌, IfOk, map, string_bytes};
 ghost use Rattle.std.specs.List.{list_any};
 ghost use Rattle.std.specs.Option.{option_copied};
-ghost use Rattle.program_steps.specs.Asking.{AsksFor};
-ghost use Rattle.program_steps.specs.Plan.{ArePassed, IsFile, reached};
-ghost use Rattle.program_steps.specs.Reading.{within_limit};
-ghost use Rattle.program_steps.specs.Replies.{outcome, CountsFault, Refuses, IsReadCause, StopsWithin, Replies, Blames};
-ghost use Rattle.wallet_top.specs.Command.{list_credentials, MayAsk, counts};
-ghost use Rattle.wallet_top.specs.Entries.{meant};
-ghost use Rattle.wallet_top.specs.Listing.{credential_limit, entry_finding, findings, finding_line, finding_lines, is_match, list_end, credential_steps, list_plan};
+ghost use Rattle.program_steps.specs.code.Endings.{ending, outcome};
+ghost use Rattle.runs.specs.Runs.{Runs};
+ghost use Rattle.runs.specs.Tree.{each};
+ghost use Rattle.runs.specs.World.{World};
+ghost use Rattle.wallet_top.specs.Listing.{finding_line, finding_lines, is_match, listed, list_answer};
+ghost use Rattle.wallet_top.specs.Listing.{list_tree, read_credential};
+ghost use Rattle.wallet_top.specs.code.Entries.{meant};
 
-use crate::credential_file::judge_file;
-use crate::ending::ended;
+use crate::credential_file::examine_for;
 use crate::finding::Finding;
-use crate::query_file::{asked_by, only, read_query, replied};
-use crate::trees::add_match;
+use crate::limits::CREDENTIAL_LIMIT;
+use crate::query_file::{only, query_by, query_refusal, read_query};
+use crate::replies::reply_with_last;
+use crate::tree_lines::add_match;
 use crate::wallet::{Entry, read_wallet};
-use dcql_query::CredentialQuery;
+use dcql_query::{CredentialQuery, Query};
 use outside::{Status, Store};
 use program_steps::{Reply, Stop, read_file};
 use std::alloc::{AllocError, Global};
-
-const CREDENTIAL_LIMIT: usize = 262_144;
 
 /// The reply to `list` with these names of a query file and a wallet file.
 ///
 /// # Errors
 ///
-/// A refusal of a file; a fault of the store at the file that is read then; want of memory.
+/// A refusal of a file or of the query; a fault of the store; out of memory.
 pub fn list_credentials<S: Store>(
     alloc: Global,
     query: &str,
     wallet: &str,
     store: &mut S,
 ) -> Result<Reply, Stop>
-    ensures same { S.files store.new ≡ S.files store.old }
-    ensures later { (name : List ℕ) → S.faults store.old name ≤ S.faults store.new name }
-    ensures counts { CountsFault (S.faults store.old) (S.faults store.new) result }
-    ensures reply { IfSome (S.files store.old) (λ files.
-        Replies (counts (S.faults store.old)) (counts (S.faults store.new)) (list_plan query.now wallet.now files) result) }
-    ensures asked { IfSome (S.files store.old) (λ files.
-        AsksFor (S.faults store.old) (S.faults store.new) (S.asked store.old) (S.asked store.new) (reached (list_plan query.now wallet.now files).steps) result) }
-    ensures blame { IfErr result (λ stop.
-        Blames (counts (S.faults store.old)) (counts (S.faults store.new)) (MayAsk (list_credentials query.now wallet.now)) stop) }
+    ensures { (w : World) → Runs (list_tree query.now wallet.now) (record w { store = S.state store.old })
+        (record w { store = S.state store.new }) (ending outcome result) }
 {
     let value = read_query(alloc, store, query)?;
     let entries = read_wallet(alloc, store, wallet)?;
-    let asked = asked_by(alloc, &value)?;
-    let listing = list_entries(alloc, &entries, only(&asked), store)?;
-    Ok(replied(alloc, &asked, listing_reply(listing)?)?)
+    let query = query_by(alloc, &value)?;
+    let findings = read_credentials(alloc, &entries, only(&query), store)?;
+    list_answer(alloc, &query, &findings)
 }
 
-// The lines of the credentials, and whether one of them matches.
-#[derive(Drop)]
-struct Listing {
-    text: String,
-    has_match: bool,
-}
-
-fn listing_reply(listing: Listing) -> Result<Reply, AllocError>
-    ensures { IfOk result (λ reply. outcome reply ≡ list_end listing.has_match (string_bytes listing.text)) }
-{
-    if listing.has_match {
-        ended(listing.text, Status::Done, "end\n")
-    } else {
-        ended(listing.text, Status::NoOption, "none\n")
-    }
-}
-
-// Reads the credentials one after the other, of which one is in memory at a time.
-fn list_entries<S: Store>(
+// Reads the credentials, one after the other. One is in memory at a time.
+fn read_credentials<S: Store>(
     alloc: Global,
     entries: &[Entry],
-    asked: Option<&CredentialQuery>,
+    wanted: Option<&CredentialQuery>,
     store: &mut S,
-) -> Result<Listing, Stop>
-    ensures same { S.files store.new ≡ S.files store.old }
-    ensures later { (name : List ℕ) → S.faults store.old name ≤ S.faults store.new name }
-    ensures counts { CountsFault (S.faults store.old) (S.faults store.new) result }
-    ensures passed { IfSome (S.files store.old) (λ files. IfOk result (λ _. ArePassed (credential_steps files (map meant entries.now)))) }
-    ensures text { IfSome (S.files store.old) (λ files. IfOk result (λ listing.
-        string_bytes listing.text ≡ finding_lines 0 (findings (option_copied asked.entry) files (map meant entries.now)))) }
-    ensures has_match { IfSome (S.files store.old) (λ files. IfOk result (λ listing.
-        listing.has_match ≡ list_any is_match (findings (option_copied asked.entry) files (map meant entries.now)))) }
-    ensures stopped { IfSome (S.files store.old) (λ files. IfErr result (λ stop.
-        StopsWithin (counts (S.faults store.old)) (counts (S.faults store.new)) (credential_steps files (map meant entries.now)) stop)) }
-    ensures asked { IfSome (S.files store.old) (λ files.
-        AsksFor (S.faults store.old) (S.faults store.new) (S.asked store.old) (S.asked store.new) (reached (credential_steps files (map meant entries.now))) result) }
-    ensures blame { IfErr result (λ stop.
-        Blames (counts (S.faults store.old)) (counts (S.faults store.new)) IsFile stop) }
+) -> Result<Vec<Finding>, Stop>
+    ensures { (w : World) → Runs (each (read_credential (option_copied wanted.entry)) (map meant entries.now))
+        (record w { store = S.state store.old }) (record w { store = S.state store.new }) (ending (λ findings.
+        findings.items) result) }
 {
-    let mut listing = Listing {
-        text: String::new(alloc),
-        has_match: false,
-    };
-    let mut number = 0;
+    let mut findings = Vec::new(alloc);
     for entry in entries {
-        let finding = find(alloc, entry, asked, store)?;
-        add_finding(&mut listing, number, finding)?;
-        number += 1;
+        let finding = read_credential(alloc, entry, wanted, store)?;
+        findings.push(finding)?;
     }
-    Ok(listing)
+    Ok(findings)
 }
 
 // What the credential of an entry comes to.
-fn find<S: Store>(
+fn read_credential<S: Store>(
     alloc: Global,
     entry: &Entry,
-    asked: Option<&CredentialQuery>,
+    wanted: Option<&CredentialQuery>,
     store: &mut S,
 ) -> Result<Finding, Stop>
-    ensures same { S.files store.new ≡ S.files store.old }
-    ensures later { (name : List ℕ) → S.faults store.old name ≤ S.faults store.new name }
-    ensures counts { CountsFault (S.faults store.old) (S.faults store.new) result }
-    ensures asked { AsksFor (S.faults store.old) (S.faults store.new) (S.asked store.old) (S.asked store.new) ((meant entry.now).file ∷ []) result }
-    ensures passed { IfSome (S.files store.old) (λ files. IfOk result (λ _.
-        within_limit credential_limit (meant entry.now).file (files (meant entry.now).file) ≡ None)) }
-    ensures finding { IfSome (S.files store.old) (λ files. IfOk result (λ finding.
-        finding ≡ entry_finding (option_copied asked.entry) files (meant entry.now))) }
-    ensures refusal { IfSome (S.files store.old) (λ files. IfErr result (λ stop.
-        Refuses (within_limit credential_limit (meant entry.now).file (files (meant entry.now).file)) stop)) }
-    ensures cause { IfErr result (λ stop.
-        IsReadCause (S.faults store.old (meant entry.now).file) (S.faults store.new (meant entry.now).file) stop) }
+    ensures { (w : World) → Runs (read_credential (option_copied wanted.entry) (meant entry.now))
+        (record w { store = S.state store.old }) (record w { store = S.state store.new }) (ending (λ finding.
+        finding) result) }
 {
     let bytes = read_file(alloc, store, entry.file.as_str(), CREDENTIAL_LIMIT)?;
-    Ok(judge_file(alloc, entry.format, asked, bytes)?)
+    Ok(examine_for(alloc, wanted, entry.format, bytes)?)
+}
+
+// The reply where all files are read: the query's refusal, or the list of these findings.
+fn list_answer(
+    alloc: Global,
+    query: &Result<Query, u8>,
+    findings: &[Finding],
+) -> Result<Reply, Stop>
+    ensures { (w : World) → Runs (list_answer query.now findings.now) w w (ending outcome result) }
+{
+    match query_refusal(alloc, query)? {
+        Some(refusal) => Err(Stop::Refused(refusal)),
+        None => Ok(listed(alloc, findings)?),
+    }
+}
+
+// The lines of the findings, from 0, and `end`, or `none` where none of them is a match.
+fn listed(alloc: Global, findings: &[Finding]) -> Result<Reply, AllocError>
+    ensures { IfOk result (λ reply. outcome reply ≡ listed findings.now) }
+{
+    let text = finding_lines(alloc, findings)?;
+    if has_match(findings) {
+        reply_with_last(text, Status::Done, "end\n")
+    } else {
+        reply_with_last(text, Status::NoOption, "none\n")
+    }
+}
+
+fn has_match(findings: &[Finding]) -> bool
+    ensures { result ≡ list_any is_match findings.now }
+{
+    findings.iter().any(|finding| is_match(*finding))
+}
+
+fn is_match(finding: Finding) -> bool
+    ensures { result ≡ is_match finding }
+{
+    match finding {
+        Finding::Match => true,
+        Finding::NoMatch | Finding::Unreadable(_) => false,
+    }
+}
+
+fn finding_lines(alloc: Global, findings: &[Finding]) -> Result<String, AllocError>
+    ensures { IfOk result (λ text. string_bytes text ≡ finding_lines 0 findings.now) }
+{
+    let mut text = String::new(alloc);
+    let mut number = 0;
+    for finding in findings {
+        add_finding(&mut text, number, *finding)?;
+        number += 1;
+    }
+    Ok(text)
 }
 
 // Adds the line of a credential with this number.
-fn add_finding(listing: &mut Listing, number: u64, finding: Finding) -> Result<(), AllocError>
-    ensures text { IfOk result (λ _. string_bytes listing.new.text ≡ string_bytes listing.old.text ++ finding_line number finding) }
-    ensures has_match { IfOk result (λ _. listing.new.has_match ≡ (listing.old.has_match || is_match finding)) }
+fn add_finding(text: &mut String, number: u64, finding: Finding) -> Result<(), AllocError>
+    ensures { IfOk result (λ _.
+        string_bytes text.new ≡ string_bytes text.old ++ finding_line number finding) }
 {
     match finding {
-        Finding::Unreadable(rule) => {
-            write!(&mut listing.text, "note {number} unreadable {rule}\n")?;
-        }
-        Finding::Match => {
-            add_match(&mut listing.text, number)?;
-            listing.has_match = true;
-        }
-        Finding::NoMatch => {}
+        Finding::Unreadable(rule) => write!(text, "note {number} unreadable {rule}\n"),
+        Finding::Match => add_match(text, number),
+        Finding::NoMatch => Ok(()),
     }
-    Ok(())
 }

@@ -1,20 +1,20 @@
 // The command `try`: which lines of a file match a query of one credential.
-ghost use Rattle.std.specs.Prelude.{◌≡◌, ◌≤◌, ℕ, List, IfOk, IfErr, IfSome, string_bytes};
-ghost use Rattle.serde_json.specs.View.{view};
-ghost use Rattle.program_steps.specs.Asking.{AsksFor};
-ghost use Rattle.program_steps.specs.Plan.{reached};
-ghost use Rattle.program_steps.specs.Replies.{outcome, CountsFault, Replies, Blames};
+ghost use Rattle.std.specs.Prelude.{◌≡◌, IfOk, string_bytes};
 ghost use Rattle.dcql_query.specs.Meaning.{query_of};
-ghost use Rattle.wallet_top.specs.Command.{try_query, MayAsk, counts};
-ghost use Rattle.wallet_top.specs.Lines.{judged, ended};
-ghost use Rattle.wallet_top.specs.Try.{try_plan};
+ghost use Rattle.program_steps.specs.code.Endings.{ending, outcome};
+ghost use Rattle.runs.specs.Runs.{Runs};
+ghost use Rattle.runs.specs.World.{World};
+ghost use Rattle.serde_json.specs.View.{view};
+ghost use Rattle.wallet_top.specs.Try.{try_lines, try_tree};
+ghost use Rattle.wallet_top.specs.code.Matches.{ended};
 
-use crate::ending::{ended, ending};
-use crate::line_error::LineError;
-use crate::query_file::{FILE_LIMIT, asked_by, only, read_query, replied};
-use crate::trees::matches;
+use crate::limits::FILE_LIMIT;
+use crate::line_stop::line_stop;
+use crate::query_file::{only, query_by, query_refusal, read_query};
+use crate::replies::{reply_of, reply_with_last};
+use crate::tree_lines::matches_in;
 use outside::{Status, Store};
-use program_steps::{Reply, Stop, file_refused, read_file, text_of};
+use program_steps::{Reply, Stop, read_file};
 use serde_json::Value;
 use std::alloc::{AllocError, Global};
 
@@ -22,40 +22,33 @@ use std::alloc::{AllocError, Global};
 ///
 /// # Errors
 ///
-/// A refusal of a file; a fault of the store at the file that is read then; want of memory.
+/// A refusal of a file or of the query; a fault of the store; out of memory.
 pub fn try_query<S: Store>(
     alloc: Global,
     query: &str,
     trees: &str,
     store: &mut S,
 ) -> Result<Reply, Stop>
-    ensures same { S.files store.new ≡ S.files store.old }
-    ensures later { (name : List ℕ) → S.faults store.old name ≤ S.faults store.new name }
-    ensures counts { CountsFault (S.faults store.old) (S.faults store.new) result }
-    ensures reply { IfSome (S.files store.old) (λ files.
-        Replies (counts (S.faults store.old)) (counts (S.faults store.new)) (try_plan query.now trees.now files) result) }
-    ensures asked { IfSome (S.files store.old) (λ files.
-        AsksFor (S.faults store.old) (S.faults store.new) (S.asked store.old) (S.asked store.new) (reached (try_plan query.now trees.now files).steps) result) }
-    ensures blame { IfErr result (λ stop.
-        Blames (counts (S.faults store.old)) (counts (S.faults store.new)) (MayAsk (try_query query.now trees.now)) stop) }
+    ensures { (w : World) → Runs (try_tree query.now trees.now) (record w { store = S.state store.old })
+        (record w { store = S.state store.new }) (ending outcome result) }
 {
     let value = read_query(alloc, store, query)?;
     let bytes = read_file(alloc, store, trees, FILE_LIMIT)?;
-    Ok(judge(alloc, &value, trees, &bytes)?)
+    try_lines(alloc, trees, &value, &bytes)
 }
 
-// The reply where both files are there and neither is too long.
-fn judge(alloc: Global, query: &Value, name: &str, bytes: &[u8]) -> Result<Reply, AllocError>
-    ensures { IfOk result (λ reply. outcome reply ≡ judged name.now (query_of (view query.now)) bytes.now) }
+// The reply to the lines of the trees file.
+fn try_lines(alloc: Global, trees: &str, value: &Value, bytes: &[u8]) -> Result<Reply, Stop>
+    ensures { (w : World) → Runs (try_lines trees.now (query_of (view value.now)) bytes.now) w w
+        (ending outcome result) }
 {
-    let Some(text) = text_of(bytes) else {
-        return file_refused(alloc, name, 1);
-    };
-    let asked = asked_by(alloc, query)?;
-    match matches(alloc, text, only(&asked)) {
-        Ok(found) => replied(alloc, &asked, all_matches(alloc, found)?),
-        Err(LineError::Refused(number)) => file_refused(alloc, name, number),
-        Err(LineError::NoMemory) => Err(AllocError),
+    let query = query_by(alloc, value)?;
+    match matches_in(alloc, bytes, only(&query)) {
+        Ok(found) => match query_refusal(alloc, &query)? {
+            Some(refusal) => Err(Stop::Refused(refusal)),
+            None => Ok(all_matches(alloc, found)?),
+        },
+        Err(error) => Err(line_stop(alloc, trees, error)),
     }
 }
 
@@ -64,7 +57,7 @@ fn all_matches(alloc: Global, matches: String) -> Result<Reply, AllocError>
     ensures { IfOk result (λ reply. outcome reply ≡ ended (string_bytes matches)) }
 {
     if matches.is_empty() {
-        return ending(alloc, Status::NoOption, "none\n");
+        return reply_of(alloc, Status::NoOption, "none\n");
     }
-    ended(matches, Status::Done, "end\n")
+    reply_with_last(matches, Status::Done, "end\n")
 }

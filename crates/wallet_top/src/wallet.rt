@@ -1,19 +1,21 @@
 // The wallet file.
-ghost use Rattle.std.specs.Prelude.{◌≡◌, ◌≤◌, ◌<◌, ◌+◌, [], ◌∷◌, ℕ, List, Some, None, map, IfOk, IfErr, IfSome, option_map};
-ghost use Rattle.program_steps.specs.Lines.{lines_of};
-ghost use Rattle.program_steps.specs.Asking.{AsksFor};
-ghost use Rattle.program_steps.specs.Plan.{file_refusal};
-ghost use Rattle.program_steps.specs.Replies.{CountsFault, Refuses, IsReadCause};
-ghost use Rattle.wallet_top.specs.Asked.{file_limit};
-ghost use Rattle.wallet_top.specs.Entries.{meant, meant_parts};
-ghost use Rattle.wallet_top.specs.Lines.{IsBadLine};
-ghost use Rattle.wallet_top.specs.Wallet.{format_named, entry_of, bad_entry, bad_wallet, entries_of, entries_in};
+ghost use Rattle.std.specs.Prelude.{◌≡◌, ◌≤◌, ◌<◌, ◌+◌, ◌∷◌, ℕ, List, Some, None, map, IfOk, IfErr};
+ghost use Rattle.std.specs.Prelude.{option_map};
+ghost use Rattle.base_forms.specs.Lines.{lines_of};
+ghost use Rattle.program_steps.specs.code.Endings.{ending};
+ghost use Rattle.runs.specs.Runs.{Runs};
+ghost use Rattle.runs.specs.World.{World};
+ghost use Rattle.wallet_top.specs.Wallet.{format_named, entry_of, bad_entry, bad_wallet, entries_of};
+ghost use Rattle.wallet_top.specs.Wallet.{read_wallet};
+ghost use Rattle.base_forms.specs.Lines.{IsBadLine};
+ghost use Rattle.wallet_top.specs.code.Entries.{meant, meant_parts};
 
-use crate::line_error::LineError;
-use crate::query_file::FILE_LIMIT;
+use crate::limits::FILE_LIMIT;
+use crate::line_stop::line_stop;
+use base_forms::{LineError, cut_line};
 use claim_tree::Format;
 use outside::Store;
-use program_steps::{Stop, cut_line, file_refused, read_file, text_of};
+use program_steps::{Stop, read_file, text_of};
 use std::alloc::Global;
 
 const MOST_CREDENTIALS: u64 = 64;
@@ -29,23 +31,15 @@ pub struct Entry {
 ///
 /// # Errors
 ///
-/// A refusal of the file; a fault of the store; want of memory.
+/// A refusal of the file; a fault of the store; out of memory.
 pub fn read_wallet<S: Store>(alloc: Global, store: &mut S, name: &str) -> Result<Vec<Entry>, Stop>
-    ensures same { S.files store.new ≡ S.files store.old }
-    ensures later { (other : List ℕ) → S.faults store.old other ≤ S.faults store.new other }
-    ensures counts { CountsFault (S.faults store.old) (S.faults store.new) result }
-    ensures asked { AsksFor (S.faults store.old) (S.faults store.new) (S.asked store.old) (S.asked store.new) (name.now ∷ []) result }
-    ensures passed { IfSome (S.files store.old) (λ files. IfOk result (λ _. file_refusal file_limit name.now bad_wallet (files name.now) ≡ None)) }
-    ensures entries { IfSome (S.files store.old) (λ files. IfOk result (λ entries. map meant entries.items ≡ entries_in (files name.now))) }
-    ensures refusal { IfSome (S.files store.old) (λ files. IfErr result (λ stop.
-        Refuses (file_refusal file_limit name.now bad_wallet (files name.now)) stop)) }
-    ensures cause { IfErr result (λ stop. IsReadCause (S.faults store.old name.now) (S.faults store.new name.now) stop) }
+    ensures { (w : World) → Runs (read_wallet name.now) (record w { store = S.state store.old })
+        (record w { store = S.state store.new }) (ending (λ entries. map meant entries.items) result) }
 {
     let bytes = read_file(alloc, store, name, FILE_LIMIT)?;
     match entries_in(alloc, &bytes) {
         Ok(entries) => Ok(entries),
-        Err(LineError::Refused(number)) => Err(Stop::Refused(file_refused(alloc, name, number)?)),
-        Err(LineError::NoMemory) => Err(Stop::NoMemory),
+        Err(error) => Err(line_stop(alloc, name, error)),
     }
 }
 
@@ -83,7 +77,8 @@ fn entry_at(alloc: Global, line: &str, number: u64) -> Result<Entry, LineError>
     requires { number ≤ 64 }
     ensures entry { IfOk result (λ entry. entry_of line.now ≡ Some (meant entry)) }
     ensures within { IfOk result (λ _. number < 64) }
-    ensures refused { IfErr result (λ error. (lines : List (List ℕ)) → IsBadLine (bad_entry (number + 1) (line.now ∷ lines)) error) }
+    ensures refused { IfErr result (λ error. (lines : List (List ℕ))
+        → IsBadLine (bad_entry (number + 1) (line.now ∷ lines)) error) }
 {
     if number >= MOST_CREDENTIALS {
         return Err(LineError::Refused(number + 1));

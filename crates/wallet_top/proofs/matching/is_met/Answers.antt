@@ -1,4 +1,4 @@
-use Rattle.std.proofs.Common.{◌≡◌, ◌<◌, ◌+◌, ◌-◌, ◌||◌, ℕ, Bool, false, sym, ap, ◌∙◌, arith, length}
+use Rattle.std.proofs.Common.{rules, ◌≡◌, ◌<◌, ◌+◌, ◌-◌, ◌||◌, ℕ, Bool, false, sym, ap, ◌∙◌, arith, length}
 use Rattle.std.specs.List.{range_with_len}
 use Rattle.claim_tree.specs.Tree.{Tree}
 use Rattle.dcql_query.specs.Query.{Credential}
@@ -16,5 +16,10 @@ past q t n i below unmet =
 
 pub loop-set-preserved : goal.loop-set-preserved
 loop-set-preserved g c =
-    past c.args.query.now (g.V.ClaimNode.tree c.args.view) (length c.args.query.now.sets) c.loop-set.set (omega (arith, c.loop-set-test.true, c.set_count-set-end.ensures.count)) (sym c.claims_met.ensures ∙ c.if-claims_met.false)
+    past c.args.query.now (g.V.ClaimNode.tree c.args.view) (length c.args.query.now.sets) c.loop-set.set
+    (omega (arith, c.loop-set-test.true, c.set_count-set-end.ensures.count)) (sym c.claims_met.ensures
+    ∙ c.if-claims_met.false)
     ∙ c.loop-set.invariant
+
+pub loop-set-init : goal.loop-set-init
+loop-set-init g c = search rules

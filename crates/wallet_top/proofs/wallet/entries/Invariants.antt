@@ -1,8 +1,8 @@
 use Rattle.std.proofs.Common.{◌≡◌, ◌≤◌, ◌+◌, ◌++◌, length, map}
 use denote.Shadow.{shadow}
 use denote.Text.{Utf8}
-use Rattle.program_steps.specs.Lines.{lines_of}
-use Rattle.wallet_top.specs.Entries.{meant}
+use Rattle.base_forms.specs.Lines.{lines_of}
+use Rattle.wallet_top.specs.code.Entries.{meant}
 use Rattle.wallet_top.specs.Wallet.{bad_entry, entries_of}
 use Rattle.wallet_top.proofs.wallet.entries.Given as goal
 

@@ -1,0 +1,4 @@
+-- What the types of this crate with private fields hold.
+pub mod MemorySink
+pub mod MemoryStore
+pub mod Real

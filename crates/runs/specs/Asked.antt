@@ -1,0 +1,57 @@
+-- What the objects were asked in a run: the questions of the tree, in their order, and nothing else.
+use Rattle.std.specs.Prelude.{◌≡◌, ◌⊎◌, ℕ, ◌≤◌, List, [], ◌∷◌, ◌++◌, length, take, Option, Some, None}
+use Rattle.std.specs.Prelude.{option_map}
+use Rattle.outside.specs.Store.{Reads, file_read}
+use Rattle.runs.specs.Runs.{Ending, HandsOn, Refuses, Faults, GivesUp, Runs}
+use Rattle.runs.specs.Tree.{Question, file, write, Answer, Tree, gives, stops, needs, tries}
+use Rattle.runs.specs.World.{World, fault_of}
+
+-- a question, and its answer, or none where the object failed or memory ran out in the call
+pub data Answered : Type 0 where
+  answered : (q : Question) → Option (Answer q) → Answered
+
+-- The tree goes along these answers, one for each question that was asked, to this end. No object stands in
+-- this.
+unfoldable pub Goes : {R A : Type 0} → Tree R A → List Answered → Ending R A → Type 0
+Goes (gives v) log end = (log ≡ []) × HandsOn v end
+Goes (stops refusal) log end = (log ≡ []) × Refuses refusal end
+Goes (needs q next) log end =
+    ((answer : Answer q) × (rest : List Answered) × (log ≡ answered q (Some answer) ∷ rest)
+    × Goes (next answer) rest end)
+    ⊎ ((log ≡ answered q None ∷ []) × Faults (fault_of q) end)
+    ⊎ (((log ≡ []) ⊎ (log ≡ answered q None ∷ [])) × GivesUp end)
+Goes (tries q next) log end =
+    ((answer : Option (Answer q)) × (rest : List Answered) × (log ≡ answered q answer ∷ rest)
+    × Goes (next answer) rest end)
+    ⊎ (((log ≡ []) ⊎ (log ≡ answered q None ∷ [])) × GivesUp end)
+
+-- the reads that a store is asked for
+abbrev pub reads_in : List Answered → Reads
+reads_in [] = []
+reads_in (answered (file name limit) answer ∷ log) = file_read name limit ∷ reads_in log
+reads_in (answered (write text) answer ∷ log) = reads_in log
+
+-- The texts that a sink is given are written to it, each whole, or up to where the sink failed in it.
+abbrev pub Writes : List Answered → Option (List ℕ) → Option (List ℕ) → Type 0
+Writes [] old new = new ≡ old
+Writes (answered (file name limit) answer ∷ log) old new = Writes log old new
+Writes (answered (write text) (Some all) ∷ log) old new =
+    Writes log (option_map (λ told. told ++ text) old) new
+Writes (answered (write text) None ∷ log) old new =
+    (n : ℕ) × (n ≤ length text) × Writes log (option_map (λ told. told ++ take n text) old) new
+
+-- What was answered: the tree goes along it to the end; it is all that the store was asked for, and all that
+-- was written to the sink, where they tell it; the sink was offered no empty piece; and the store's files are
+-- as they were. Where memory ran out in the last read, the store may have that on record, or not.
+pub record Went {R A : Type 0} (t : Tree R A) (before after : World) (end : Ending R A) : Type 0 where
+  pub log : List Answered
+  pub goes : Goes t log end
+  pub reads : after.store.reads ≡ option_map (λ told. told ++ reads_in log) before.store.reads
+  pub writes : Writes log before.sink.written after.sink.written
+  pub pieces : after.sink.empty_pieces ≡ before.sink.empty_pieces
+  pub files : after.store.files ≡ before.store.files
+
+-- However a run ends, the objects were asked what the tree asks, in that order, and nothing else.
+abbrev pub AsksInOrder : Type 0 → Type 0 → Type 0
+AsksInOrder R A = (t : Tree R A) (before after : World) (end : Ending R A) → Runs t before after end
+    → Went t before after end

@@ -1,0 +1,10 @@
+// An object that failed.
+
+/// An object that was passed in and failed.
+#[derive(Clone, Copy, Debug, PartialEq, Eq)]
+pub enum Fault {
+    /// The store.
+    Read,
+    /// The sink.
+    Write,
+}

@@ -1,0 +1,7 @@
+-- What holds of the commands of the wallet.
+use Rattle.runs.specs.Counts.{Insists}
+use Rattle.wallet_top.specs.Command.{Command, tree_of}
+
+-- No command passes over a fault.
+abbrev pub PassesNoFault : Type 0
+PassesNoFault = (command : Command) → Insists (tree_of command)

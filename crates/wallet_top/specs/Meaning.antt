@@ -1,8 +1,0 @@
--- What the code has read, as what it means.
-use Rattle.wallet_top.specs.declared.command.Command as code
-use Rattle.wallet_top.specs.declared.command.Command.TheVariants.{Try, List}
-use Rattle.wallet_top.specs.Command.{Command, try_query, list_credentials}
-
-abbrev pub meaning : code.Command → Command
-meaning (Try query trees) = try_query query.now trees.now
-meaning (List query wallet) = list_credentials query.now wallet.now
