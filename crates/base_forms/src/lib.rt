@@ -1,8 +1,9 @@
-//! Text forms of bytes and of dates, digests by their names, the names of keys that certificates hold, and what every reader
-//! says: the least of numbered rules that are broken, and whether a text stands twice.
+//! Forms that every reader shares: base64url, hexadecimal, dates, the lines of a text, digests by the names
+//! of their hash functions, names of keys by their certificates, distinct texts, and tables of numbered
+//! rules.
 //!
 //! Base64url without padding and lower-case hexadecimal are those of RFC 4648. Both are read strictly:
-//! a text that is read is the one encoding of the bytes that it gives.
+//! a text that is read is the only encoding of its bytes.
 #![tactic(auto)]
 
 mod base16;
@@ -10,10 +11,9 @@ mod error;
 mod hash;
 pub mod laws;
 mod leaf;
+mod lines;
 mod rules;
 mod tdate;
-#[cfg(test)]
-mod tests;
 mod texts;
 mod url64;
 
@@ -21,6 +21,7 @@ pub use base16::{from_hex, to_hex};
 pub use error::{Error, NoMemory};
 pub use hash::{Digest, HashName};
 pub use leaf::leaf_name;
+pub use lines::{LineError, cut_line};
 pub use rules::lesser;
 pub use tdate::{DateRule, read_tdate};
 pub use texts::{are_distinct, set_of};

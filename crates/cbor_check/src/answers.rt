@@ -1,14 +1,13 @@
-// The lines that are printed.
+// The lines that the program prints.
 ghost use Rattle.std.specs.Prelude.{◌≡◌, ◌++◌, ◌<◌, length, IfOk, string_bytes};
-ghost use Rattle.program_steps.specs.Lines.{lines_of};
-ghost use Rattle.program_steps.specs.Outcome.{line};
-ghost use Rattle.cbor_check.specs.Answers.{answers, shown};
+ghost use Rattle.base_forms.specs.Lines.{lines_of};
+ghost use Rattle.cbor_check.specs.Answers.{answers, shown, line};
 
 use crate::verdict::{NoMemory, Verdict, judge};
-use program_steps::cut_line;
+use base_forms::cut_line;
 use std::alloc::{AllocError, Global};
 
-/// A line for each line of the text.
+/// The answer to each line of the text, one a line.
 pub fn answers(alloc: Global, text: &str) -> Result<String, NoMemory>
     ensures { IfOk result (λ found. string_bytes found ≡ answers (lines_of text.now)) }
 {
@@ -23,6 +22,7 @@ pub fn answers(alloc: Global, text: &str) -> Result<String, NoMemory>
     Ok(found)
 }
 
+// Adds a line with the verdict.
 fn add_verdict(text: &mut String, verdict: Verdict) -> Result<(), AllocError>
     ensures { IfOk result (λ _. string_bytes text.new ≡ string_bytes text.old ++ line (shown verdict)) }
 {

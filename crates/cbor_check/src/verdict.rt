@@ -1,4 +1,4 @@
-// What is said of a line.
+// Judging a line.
 ghost use Rattle.std.specs.Prelude.{◌≡◌, IfOk};
 ghost use Rattle.cbor_core.specs.Rules.{broken_rule};
 ghost use Rattle.cbor_check.specs.Verdicts.{verdict_by, verdict_of};
@@ -7,18 +7,18 @@ use base_forms::from_hex;
 use cbor_core::read_one;
 use std::alloc::{AllocError, Global};
 
-/// What is said of a line.
+/// What the program says of a line.
 #[derive(Clone, Copy, Debug, PartialEq, Eq)]
 pub enum Verdict {
-    /// Its bytes are one item.
+    /// Its bytes are one CBOR item.
     Read,
-    /// Its bytes break the rule with this number.
+    /// Its bytes break the rule of this number.
     Refused(u8),
-    /// It is no hexadecimal.
+    /// It is not hexadecimal.
     NoHexadecimal,
 }
 
-/// Memory was wanting.
+/// Out of memory.
 #[derive(Clone, Copy, Debug, PartialEq, Eq)]
 pub struct NoMemory;
 

@@ -5,7 +5,8 @@ use Rattle.cbor_core.specs.declared.head.TheConstants.{MAX_DEPTH}
 use Rattle.cbor_core.specs.Item.{Reader, item_at}
 use Rattle.cbor_core.specs.Views.{on_ok, cut, before, items_in, pair_up}
 
-one_more : (r : Result (List ℕ) Fault) (f : List ℕ → List (List ℕ)) (n : ℕ) → ((rest : List ℕ) → length (f rest) ≤ n) → length (on_ok r f []) ≤ n
+one_more : (r : Result (List ℕ) Fault) (f : List ℕ → List (List ℕ)) (n : ℕ)
+    → ((rest : List ℕ) → length (f rest) ≤ n) → length (on_ok r f []) ≤ n
 one_more (Ok rest) f n h = h rest
 one_more (Err e) f n h = omega arith
 
@@ -14,7 +15,8 @@ unfolding cut
 cut_count read turns [] = omega arith
 cut_count read zero (b ∷ bytes) = omega arith
 cut_count read (suc turns) (b ∷ bytes) =
-    one_more (read (b ∷ bytes)) (λ rest. before rest (b ∷ bytes) ∷ cut read turns rest) (suc turns) (λ rest. omega (arith, cut_count read turns rest))
+    one_more (read (b ∷ bytes)) (λ rest. before rest (b ∷ bytes) ∷ cut read turns rest) (suc turns)
+    (λ rest. omega (arith, cut_count read turns rest))
 
 pub items_count : (bytes : List ℕ) → length (items_in bytes) ≤ length bytes
 unfolding items_in

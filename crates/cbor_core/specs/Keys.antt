@@ -1,5 +1,6 @@
--- When a key of a map is doubled (RFC 8949, section 5.6): keys are the same where they are equal whole numbers, texts or byte
--- strings, whatever the lengths of their heads, and else where their encodings are equal.
+-- When a map has a key twice (RFC 8949, section 5.6). Integers, text strings and byte strings are the same
+-- key where they are equal, whatever the lengths of their heads. Any other items are the same key where their
+-- encodings are equal.
 use Rattle.std.specs.Prelude.{ℕ, List, [], ◌∷◌, Bool, true, false, not, ◌&&◌, ℤ, pos, negsuc, map}
 use Rattle.std.specs.Ordering.{int_eq}
 use Rattle.std.specs.List.{list_any}
@@ -22,7 +23,7 @@ key_by span (head.Text n) back = text back
 key_by span (head.Bytes n) back = bytes back
 key_by span _ back = encoding span
 
--- what an item is as a key
+-- the key that an item is
 unfoldable pub key_of : List ℕ → KeyMeaning
 key_of span = by_head (key_by span) (encoding span) span
 
@@ -33,12 +34,12 @@ same_key (bytes s) (bytes t) = bytes_eq s t
 same_key (encoding s) (encoding t) = bytes_eq s t
 same_key _ _ = false
 
--- no key is the same as a later one
+-- the keys are distinct
 abbrev pub keys_differ : List KeyMeaning → Bool
 keys_differ [] = true
 keys_differ (k ∷ ks) = not (list_any (same_key k) ks) && keys_differ ks
 
--- no key is the same as the next one
+-- every key differs from the next one
 abbrev pub neighbours_differ : List KeyMeaning → Bool
 neighbours_differ [] = true
 neighbours_differ (k ∷ []) = true

@@ -9,5 +9,4 @@ pub mod Laws
 pub mod Order
 pub mod Seen
 pub mod Keys
-pub mod KeySeen
-pub mod Fine
+pub mod code

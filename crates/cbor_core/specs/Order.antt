@@ -1,4 +1,4 @@
--- Maps whose keys stand in the bytewise order of their encodings (RFC 8949, section 4.2.1).
+-- Maps with their keys in the bytewise order of their encodings (RFC 8949, section 4.2.1).
 use Rattle.std.specs.Prelude.{◌≡◌, ℕ, List, ◌++◌, length, map}
 use Rattle.cbor_core.specs.Writing.{head_bytes, pairs_bytes}
 use Rattle.std.specs.Global.{Vec}
@@ -21,6 +21,7 @@ lent pairs = map (λ p. (p.0.now, p.1.now)) pairs
 abbrev pub AreInOrder : List Pair → List Pair → Type 0
 AreInOrder pairs order = IsPermutation pairs order × IsSortedByKey (λ p. p.0) (slice_cmp nat_cmp) order
 
--- new is old with the map of the pairs at its end: there is one such map where the keys differ
+-- `new` is `old` with the map of the pairs at its end. There is one such map where the keys are distinct.
 abbrev pub AppendsSortedMap : List ℕ → List ℕ → List Pair → Type 0
-AppendsSortedMap old new pairs = (order : List Pair) × AreInOrder pairs order × (new ≡ old ++ (head_bytes 5 (length pairs) ++ pairs_bytes order))
+AppendsSortedMap old new pairs = (order : List Pair) × AreInOrder pairs order
+    × (new ≡ old ++ (head_bytes 5 (length pairs) ++ pairs_bytes order))

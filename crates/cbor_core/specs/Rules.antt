@@ -1,7 +1,9 @@
--- Which rule of reading one item (RFC 8949) bytes break. 1 the bytes end within the item, 2 a reserved head, 3 a string in chunks,
--- 4 a text that is not UTF-8, 5 a doubled key, 6 nested too deep, 7 bytes are left over. Of 1, 2, 3 and 6 it is the one that the first
--- head breaks that breaks any of them; where no head does, it is the least of 4, 5 and 7.
-use Rattle.std.specs.Prelude.{ℕ, zero, suc, List, length, Bool, true, not, ◌&&◌, Option, Some, None, Result, Ok, Err, nat_lt, if◌then◌else◌}
+-- The rules of reading one item (RFC 8949, sections 3 and 5.6): 1 the bytes end within the item, 2 a reserved
+-- head, 3 a string in chunks, 4 a text string that is not UTF-8, 5 a key that a map has twice, 6 nested too
+-- deep, 7 bytes after the item. If heads break rule 1, 2, 3 or 6, the broken rule is the one that the first
+-- such head breaks. Otherwise it is the least broken rule of 4, 5 and 7.
+use Rattle.std.specs.Prelude.{ℕ, zero, suc, List, length, Bool, true, not, ◌&&◌, Option, Some, None, Result}
+use Rattle.std.specs.Prelude.{Ok, Err, nat_lt, if◌then◌else◌}
 use Rattle.std.specs.Option.{option_map_or}
 use Rattle.std.specs.List.{list_all}
 use Rattle.std.specs.Str.{is_utf8}
@@ -11,36 +13,37 @@ use Rattle.cbor_core.specs.Item.{item_at}
 use Rattle.cbor_core.specs.Views.{before, items_in, inside_of, entries_of, text_of}
 use Rattle.cbor_core.specs.Keys.{keys_differ, keys_in}
 
--- A test holds of an item and of each item inside it, at any depth.
+-- the test holds of the item and of every item inside it, down to this depth
 unfoldable pub each_inside : (List ℕ → Bool) → ℕ → List ℕ → Bool
 each_inside test zero bytes = test bytes
-each_inside test (suc depth) bytes = test bytes && list_all (each_inside test depth) (items_in (inside_of bytes))
+each_inside test (suc depth) bytes =
+    test bytes && list_all (each_inside test depth) (items_in (inside_of bytes))
 
--- the same of an item that lies in one of which depth counts
+-- the test holds of an item that stands directly inside one with this depth
 abbrev pub each_below : (List ℕ → Bool) → ℕ → List ℕ → Bool
 each_below test zero = λ _. true
 each_below test (suc depth) = each_inside test depth
 
--- no text that is not UTF-8
+-- if the item is a text string, it is UTF-8
 unfoldable pub is_fine_text : List ℕ → Bool
 is_fine_text bytes = option_map_or is_utf8 (text_of bytes) true
 
--- no key comes twice
+-- if the item is a map, its keys are distinct
 abbrev pub is_fine_map : List ℕ → Bool
 is_fine_map bytes = keys_differ (keys_in (entries_of bytes))
 
--- what the two ask of an item
+-- both
 abbrev pub is_fine_item : List ℕ → Bool
 is_fine_item bytes = is_fine_text bytes && is_fine_map bytes
 
--- 1, 2, 3 and 6: the head that is met first breaks one of these
+-- 1, 2, 3 and 6, which heads break
 abbrev pub rule_of : Fault → ℕ
 rule_of Short = 1
 rule_of Reserved = 2
 rule_of Chunked = 3
 rule_of Deep = 6
 
--- 4, 5 and 7: where there is an item at the front, and rest behind it
+-- 4, 5 and 7, where the bytes are an item and the rest after it
 abbrev pub later_rule : ℕ → List ℕ → List ℕ → Option ℕ
 later_rule depth item rest =
     if not (each_inside is_fine_text depth item) then Some 4
@@ -52,6 +55,6 @@ abbrev pub rule_after : ℕ → List ℕ → Result (List ℕ) Fault → Option 
 rule_after depth bytes (Err f) = Some (rule_of f)
 rule_after depth bytes (Ok rest) = later_rule depth (before rest bytes) rest
 
--- the rule that bytes break, if they break any
+-- the rule that the bytes break, if they break one
 unfoldable pub broken_rule : ℕ → List ℕ → Option ℕ
 broken_rule depth bytes = rule_after depth bytes (item_at depth bytes)

@@ -1,5 +1,6 @@
--- What an item says, by its own bytes.
-use Rattle.std.specs.Prelude.{ℕ, zero, suc, ◌-◌, List, [], ◌∷◌, length, take, Bool, true, false, Option, Some, None, Result, Ok, Err, ℤ, pos, negsuc, option_and_then, ◌==◌, if◌then◌else◌}
+-- What an item says (RFC 8949, section 3), by the bytes of its encoding.
+use Rattle.std.specs.Prelude.{ℕ, zero, suc, ◌-◌, List, [], ◌∷◌, length, take, Bool, true, false, Option, Some}
+use Rattle.std.specs.Prelude.{None, Result, Ok, Err, ℤ, pos, negsuc, option_and_then, ◌==◌, if◌then◌else◌}
 use Rattle.std.specs.Option.{option_map_or}
 use Rattle.std.specs.Str.{bytes_eq, is_utf8}
 use Rattle.cbor_core.specs.declared.head.Fault.{Fault}
@@ -11,7 +12,7 @@ use Rattle.cbor_core.specs.declared.head.TheConstants.{MAX_DEPTH}
 use Rattle.cbor_core.specs.Head.{head_at}
 use Rattle.cbor_core.specs.Item.{Reader, item_at}
 
--- an item, by its own bytes
+-- an item: the bytes of its encoding
 abbrev pub Span : Type 0
 Span = List ℕ
 
@@ -24,29 +25,30 @@ ends (Ok []) = true
 ends (Ok (b ∷ bytes)) = false
 ends (Err f) = false
 
--- Are the bytes one item, with at most MAX_DEPTH lists, maps and tags inside one another?
+-- the bytes are one item, with at most MAX_DEPTH lists, maps and tags inside one another
 unfoldable pub is_item : List ℕ → Bool
 is_item bytes = ends (item_at MAX_DEPTH bytes)
 
--- the bytes before rest, which stands at their end
+-- the bytes before `rest`, which is the end of them
 abbrev pub before : List ℕ → List ℕ → List ℕ
 before rest bytes = take (length bytes - length rest) bytes
 
--- bytes cut into what read reads, one after another, up to where it reads nothing
+-- the bytes cut into what `read` reads, one after another, up to where it fails
 unfoldable pub cut : Reader → ℕ → List ℕ → List (List ℕ)
 cut read turns [] = []
 cut read zero (b ∷ bytes) = []
-cut read (suc turns) (b ∷ bytes) = on_ok (read (b ∷ bytes)) (λ rest. before rest (b ∷ bytes) ∷ cut read turns rest) []
+cut read (suc turns) (b ∷ bytes) =
+    on_ok (read (b ∷ bytes)) (λ rest. before rest (b ∷ bytes) ∷ cut read turns rest) []
 
--- the items that bytes are, one after another
+-- the items that the bytes are, one after another
 unfoldable pub items_in : List ℕ → List (List ℕ)
 items_in bytes = cut (item_at MAX_DEPTH) (length bytes) bytes
 
--- bytes without the break at their end
+-- the bytes without the break at the end
 abbrev pub before_break : List ℕ → List ℕ
 before_break bytes = take (length bytes - 1) bytes
 
--- what a word says by an item's head and the bytes behind it
+-- a value that an item's head and the bytes after it give
 abbrev pub by_head : {A : Type 0} → (Head → List ℕ → A) → A → List ℕ → A
 by_head f d bytes = on_ok (head_at bytes) (λ h. f h.0 h.1) d
 
@@ -55,7 +57,7 @@ whole_by (head.Unsigned n) back = Some (pos n)
 whole_by (head.Negative n) back = Some (negsuc n)
 whole_by _ back = None
 
--- a whole number, of major type 0 or 1
+-- an integer: major types 0 and 1
 unfoldable pub whole_of : List ℕ → Option ℤ
 whole_of bytes = by_head whole_by None bytes
 
@@ -76,7 +78,7 @@ text_of bytes = by_head text_by None bytes
 abbrev pub if_utf8 : List ℕ → Option (List ℕ)
 if_utf8 text = if is_utf8 text then Some text else None
 
--- a text that is UTF-8
+-- a text string that is UTF-8
 unfoldable pub utf8_text_of : List ℕ → Option (List ℕ)
 utf8_text_of bytes = option_and_then if_utf8 (text_of bytes)
 
@@ -84,7 +86,7 @@ abbrev pub tag_by : Head → List ℕ → Option (ℕ × List ℕ)
 tag_by (head.Tag n) back = Some (n, back)
 tag_by _ back = None
 
--- a tag, and the item that it is on
+-- the number of a tag, and the item that is tagged
 unfoldable pub tag_of : List ℕ → Option (ℕ × List ℕ)
 tag_of bytes = by_head tag_by None bytes
 
@@ -99,7 +101,8 @@ unfoldable pub truth_of : List ℕ → Option Bool
 truth_of bytes = by_head truth_by None bytes
 
 abbrev pub simple_kind : ℕ → Kind
-simple_kind n = if n == 20 then kind.Truth else if n == 21 then kind.Truth else if n == 22 then kind.Null else kind.Other
+simple_kind n =
+    if n == 20 then kind.Truth else if n == 21 then kind.Truth else if n == 22 then kind.Null else kind.Other
 
 abbrev pub kind_by : Head → List ℕ → Kind
 kind_by (head.Unsigned n) back = kind.Whole
@@ -152,11 +155,11 @@ pair_up (key ∷ value ∷ items) = (key, value) ∷ pair_up items
 abbrev pub entries_of : List ℕ → List (List ℕ × List ℕ)
 entries_of bytes = pair_up (items_in (pairs_of bytes))
 
--- Is the item this text?
+-- the item is this text string
 abbrev pub is_text : List ℕ → List ℕ → Bool
 is_text name bytes = option_map_or (λ text. bytes_eq text name) (text_of bytes) false
 
--- the value of the first key that is this text
+-- the value of the first key that is this text string
 abbrev pub find_in : List ℕ → List (List ℕ × List ℕ) → Option (List ℕ)
 find_in name [] = None
 find_in name (entry ∷ entries) = if is_text name entry.0 then Some entry.1 else find_in name entries

@@ -1,5 +1,6 @@
--- The deterministic bytes (RFC 8949, section 4.2.1): the shortest heads, definite lengths.
-use Rattle.std.specs.Prelude.{ℕ, ◌+◌, ◌*◌, List, [], ◌∷◌, ◌++◌, length, Bool, true, false, ℤ, pos, negsuc, nat_lt, if◌then◌else◌}
+-- Deterministic encoding (RFC 8949, section 4.2.1): shortest heads, definite lengths.
+use Rattle.std.specs.Prelude.{ℕ, ◌+◌, ◌*◌, List, [], ◌∷◌, ◌++◌, length, Bool, true, false, ℤ, pos, negsuc}
+use Rattle.std.specs.Prelude.{nat_lt, if◌then◌else◌}
 use Rattle.std.specs.Int.{w8, w16, w32, w64, to_be_bytes}
 
 -- the shortest head of a major type with this argument

@@ -1,8 +1,8 @@
-//! What the calls of this crate answer where they do not succeed.
+//! The errors of this crate.
 
 use std::alloc::{AllocError, AllocFailed};
 
-/// Memory was wanting. Nothing else makes a call answer this.
+/// Out of memory.
 #[derive(Clone, Copy, PartialEq, Eq, Debug, Drop)]
 pub struct NoMemory;
 
@@ -21,10 +21,10 @@ impl<T: Drop> From<AllocFailed<T>> for NoMemory {
 /// Why bytes were not read.
 #[derive(Clone, Copy, PartialEq, Eq, Debug, Drop)]
 pub enum Error {
-    /// The rule that they break, by its number: of 1, 2, 3 and 6 the one that the first head breaks that breaks any of them, else the
-    /// least of 4, 5 and 7.
+    /// The number of the broken rule. If a head breaks rule 1, 2, 3 or 6, it is the rule that the first such
+    /// head breaks. Otherwise it is the least broken rule of 4, 5 and 7.
     Refused(u8),
-    /// Memory was wanting. It may come in place of any other answer.
+    /// Out of memory.
     NoMemory,
 }
 

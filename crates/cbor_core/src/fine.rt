@@ -1,12 +1,14 @@
-//! The item at the front, read and checked in one walk.
+//! Reading and checking the item at the front in one walk. An item is fine where each string of text in it is
+//! UTF-8 and the keys of each map in it are distinct.
 
 ghost use Rattle.std.specs.Prelude.{◌≡◌, ◌≤◌, IfOk, Some, None, option_map, map, length, true, if◌then◌else◌};
 ghost use Rattle.cbor_core.specs.Keys.{keys_differ};
 ghost use Rattle.std.specs.Str.{is_utf8 as utf8_test};
 ghost use Rattle.cbor_core.specs.Views.{before_break};
 ghost use Rattle.cbor_core.specs.Item.{string_at, pair_at, times, up_to_break, item_at};
-ghost use Rattle.cbor_core.specs.Fine.{checked, are_fine, are_entries_fine, fine_at, fine_list_at, fine_map_at, fine_entry_at};
-ghost use Rattle.cbor_core.specs.KeySeen.{meaning_of};
+ghost use Rattle.cbor_core.specs.code.Fine.{checked, are_fine, are_entries_fine, fine_at, fine_list_at};
+ghost use Rattle.cbor_core.specs.code.Fine.{fine_map_at, fine_entry_at};
+ghost use Rattle.cbor_core.specs.code.KeySeen.{meaning_of};
 
 use crate::error::NoMemory;
 use crate::head::{Head, MAX_DEPTH, head_at};
@@ -15,7 +17,7 @@ use crate::walk::skip_string;
 use std::alloc::Global;
 use std::str;
 
-/// Are the bytes UTF-8?
+/// Whether the bytes are UTF-8.
 pub fn is_utf8(bytes: &[u8]) -> bool
     ensures { result ≡ utf8_test bytes.now }
 {
@@ -25,7 +27,7 @@ pub fn is_utf8(bytes: &[u8]) -> bool
     }
 }
 
-/// The bytes after the item at the front, where it is one, each text in it is UTF-8, and the keys of each map in it differ.
+/// The bytes after the item at the front, if there is one and it is fine.
 #[tactic(auto, using(crate::proofs::OneWalk::headless, crate::proofs::OneWalk::flat_head, crate::proofs::OneWalk::bytes_head, crate::proofs::OneWalk::text_head, crate::proofs::OneWalk::break_head, crate::proofs::OneWalk::too_deep_fine, crate::proofs::OneWalk::list_head, crate::proofs::OneWalk::map_head, crate::proofs::OneWalk::tag_head))]
 #[cycle(fine)]
 pub fn after_fine(alloc: Global, bytes: &[u8], depth: u32) -> Result<Option<&[u8]>, NoMemory>
@@ -67,7 +69,7 @@ fn after_text(bytes: &[u8], len: u64) -> Option<&[u8]>
     if is_utf8(text) { Some(rest) } else { None }
 }
 
-/// The bytes after the elements of a list.
+/// The bytes after the elements of a list, if they are fine.
 #[cycle(fine)]
 fn after_list(
     alloc: Global,
@@ -84,7 +86,7 @@ fn after_list(
     }
 }
 
-/// The bytes after the keys and values of a map.
+/// The bytes after the entries of a map, if they are fine and the keys are distinct.
 #[cycle(fine)]
 fn after_map(
     alloc: Global,
@@ -110,7 +112,8 @@ fn after_items(
     depth: u32,
 ) -> Result<Option<&[u8]>, NoMemory>
     requires { depth ≤ MAX_DEPTH }
-    ensures { IfOk result (λ o. option_map (λ r. r.now) o ≡ checked (are_fine depth) (times (item_at depth) count) bytes.now) }
+    ensures { IfOk result
+        (λ o. option_map (λ r. r.now) o ≡ checked (are_fine depth) (times (item_at depth) count) bytes.now) }
 {
     let mut rest = bytes;
     for _ in 0..count {
@@ -127,7 +130,8 @@ fn after_items(
 fn after_items_to_break(alloc: Global, bytes: &[u8], depth: u32) -> Result<Option<&[u8]>, NoMemory>
     requires { depth ≤ MAX_DEPTH }
     ensures { IfOk result (λ o. option_map (λ r. r.now) o
-        ≡ checked (λ c. are_fine depth (before_break c)) (up_to_break (item_at depth) (length bytes.now)) bytes.now) }
+        ≡ checked (λ c. are_fine depth (before_break c))
+        (up_to_break (item_at depth) (length bytes.now)) bytes.now) }
 {
     let mut rest = bytes;
     for _ in 0..bytes.len() {
@@ -145,7 +149,7 @@ fn after_items_to_break(alloc: Global, bytes: &[u8], depth: u32) -> Result<Optio
     Ok(None)
 }
 
-/// The key at the front and the bytes after its value, where both are fine.
+/// The key at the front and the bytes after its value, if both are fine.
 #[tactic(auto, using(crate::proofs::OneWalk::fine_shorter))]
 #[cycle(fine)]
 fn after_entry(
@@ -154,7 +158,8 @@ fn after_entry(
     depth: u32,
 ) -> Result<Option<(Key<'_>, &[u8])>, NoMemory>
     requires { depth ≤ MAX_DEPTH }
-    ensures { IfOk result (λ o. option_map (λ e. (meaning_of e.0, e.1.now)) o ≡ fine_entry_at depth bytes.now) }
+    ensures { IfOk result (λ o.
+        option_map (λ e. (meaning_of e.0, e.1.now)) o ≡ fine_entry_at depth bytes.now) }
 {
     let Some(back) = after_fine(alloc, bytes, depth)? else {
         return Ok(None);
@@ -199,7 +204,8 @@ fn after_entries_to_break(
 ) -> Result<Option<&[u8]>, NoMemory>
     requires { depth ≤ MAX_DEPTH }
     ensures { IfOk result (λ o. option_map (λ r. r.now) o
-        ≡ checked (λ c. are_entries_fine depth (before_break c)) (up_to_break (pair_at (item_at depth)) (length bytes.now)) bytes.now) }
+        ≡ checked (λ c. are_entries_fine depth (before_break c))
+        (up_to_break (pair_at (item_at depth)) (length bytes.now)) bytes.now) }
 {
     let mut keys = Vec::new(alloc);
     let mut rest = bytes;
@@ -219,9 +225,10 @@ fn after_entries_to_break(
     Ok(None)
 }
 
-/// The bytes after the entries of a map with these keys, where they differ.
+/// The bytes after a map's entries, if its keys are distinct.
 fn if_different<'b>(keys: Vec<Key<'b>>, rest: &'b [u8]) -> Option<&'b [u8]>
-    ensures { option_map (λ r. r.now) result ≡ (if keys_differ (map meaning_of keys.entry.items) then Some rest.now else None) }
+    ensures { option_map (λ r. r.now) result ≡
+        (if keys_differ (map meaning_of keys.entry.items) then Some rest.now else None) }
 {
     if are_different(keys) {
         Some(rest)

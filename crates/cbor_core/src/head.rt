@@ -1,10 +1,10 @@
-//! The head of an item: its major type and its argument.
+//! The head of an item: its major type and its argument (RFC 8949, section 3).
 
 ghost use Rattle.std.specs.Prelude.{◌≡◌, ◌<◌, length};
 ghost use Rattle.std.specs.Int.{w8, w16, w32, w64};
 ghost use Rattle.cbor_core.specs.Head.{Gives, number_at, argument_at, head_of, open_head_of, head_at};
 
-/// What keeps bytes from being items inside one another.
+/// Why bytes do not begin with an item.
 #[derive(Clone, Copy, Debug, PartialEq, Eq)]
 pub enum Fault {
     /// The bytes end within the item.
@@ -13,11 +13,11 @@ pub enum Fault {
     Reserved,
     /// A string in chunks.
     Chunked,
-    /// More items inside one another than are allowed.
+    /// More lists, maps and tags inside one another than are allowed.
     Deep,
 }
 
-/// What a head says. A list or a map with no count ends at a break.
+/// A head. A list or a map with no count ends at a break.
 #[derive(Clone, Copy, Debug, PartialEq, Eq)]
 pub enum Head {
     Unsigned(u64),
@@ -164,5 +164,5 @@ pub fn head_at(bytes: &[u8]) -> Result<(Head, &[u8]), Fault>
     Ok((head, rest))
 }
 
-/// How many lists, maps and tags an item may have inside one another at the most.
+/// The most lists, maps and tags that may stand inside one another in an item.
 pub const MAX_DEPTH: u32 = 64;

@@ -1,20 +1,23 @@
-//! An item, which is its own bytes, and what stands in it.
+//! Views of items.
 
 ghost use Rattle.cbor_core.specs.Head.{Gives};
 ghost use Rattle.cbor_core.specs.Item.{item_at};
-ghost use Rattle.std.specs.Prelude.{◌≡◌, ◌≤◌, ◌<◌, ◌^◌, ◌-◌, ◌≤ℤ◌, ◌<ℤ◌, pos, negsuc, length, IfOk, IfSome, IsTrue, MatchOption, option_map, None, ℕ, List};
+ghost use Rattle.std.specs.Prelude.{◌≡◌, ◌≤◌, ◌<◌, ◌^◌, ◌-◌, ◌≤ℤ◌, ◌<ℤ◌, pos, negsuc, length, IfOk, IfSome};
+ghost use Rattle.std.specs.Prelude.{IsTrue, MatchOption, option_map, None, ℕ, List};
 ghost use Rattle.std.specs.Option.{option_copied};
 ghost use Rattle.std.specs.Iterator.{YieldsFirstBy, item_count};
-ghost use Rattle.cbor_core.specs.Views.{is_item, items_in, whole_of, bytes_of, text_of, tag_of, truth_of, kind_of, elements_of, items_of, pairs_of, entries_of, pair_up, find_in, inside_of, before, before_break, if_utf8, utf8_text_of};
+ghost use Rattle.cbor_core.specs.Views.{is_item, items_in, whole_of, bytes_of, text_of, tag_of, truth_of};
+ghost use Rattle.cbor_core.specs.Views.{kind_of, elements_of, items_of, pairs_of, entries_of, pair_up};
+ghost use Rattle.cbor_core.specs.Views.{find_in, inside_of, before, before_break, if_utf8, utf8_text_of};
 
 use crate::head::{Fault, Head, MAX_DEPTH, head_at};
 use crate::kind::Kind;
 use crate::walk::skip;
 use std::str;
 
-/// An item, as the bytes of its encoding where they lie. No call on it takes memory.
+/// A view of an item: the bytes of its encoding. No call on it takes memory.
 ///
-/// Looking at the elements of a list or the entries of a map goes over their bytes.
+/// Finding the elements of a list or the entries of a map takes time linear in their bytes.
 #[derive(Clone, Copy)]
 pub struct Item<'a> {
     bytes: &'a [u8],
@@ -43,14 +46,14 @@ impl<'a> Item<'a> {
         Ok((Item { bytes: front }, after))
     }
 
-    /// The item's own bytes.
+    /// The bytes of the item's encoding.
     pub fn span(self) -> &'a [u8]
         ensures { result.now ≡ span_of self.entry }
     {
         self.bytes
     }
 
-    /// What the item is.
+    /// The kind of the item.
     #[tactic(auto, unfolding(crate::specs::Views::kind_of))]
     pub fn kind(self) -> Kind
         ensures { result ≡ kind_of (span_of self.entry) }
@@ -71,7 +74,7 @@ impl<'a> Item<'a> {
         }
     }
 
-    /// The whole number that the item is, if it is one: from -2^64 to 2^64 - 1.
+    /// The integer that the item is, if it is one: from -2^64 to 2^64 - 1.
     #[tactic(auto, unfolding(crate::specs::Views::whole_of))]
     pub fn whole(self) -> Option<i128>
         ensures said { result ≡ whole_of (span_of self.entry) }
@@ -87,7 +90,7 @@ impl<'a> Item<'a> {
         }
     }
 
-    /// The truth value that the item is, if it is one.
+    /// The boolean that the item is, if it is one.
     #[tactic(auto, unfolding(crate::specs::Views::truth_of))]
     pub fn truth(self) -> Option<bool>
         ensures { result ≡ truth_of (span_of self.entry) }
@@ -116,7 +119,7 @@ impl<'a> Item<'a> {
         }
     }
 
-    /// The elements of a list, in written order, and nothing for any other item.
+    /// The elements of a list, in written order. Any other item has none.
     #[tactic(auto, unfolding(crate::specs::Views::elements_of), using(crate::proofs::Counts::items_count))]
     pub fn items(self) -> Items<'a>
         ensures left { items_left result ≡ items_of (span_of self.entry) }
@@ -134,7 +137,7 @@ impl<'a> Item<'a> {
         }
     }
 
-    /// The bytes of a text.
+    /// The bytes of the text string that the item is, if it is one.
     #[tactic(auto, unfolding(crate::specs::Views::text_of))]
     pub(crate) fn text_bytes(self) -> Option<&'a [u8]>
         ensures { option_map (λ b. b.now) result ≡ text_of (span_of self.entry) }
@@ -148,7 +151,7 @@ impl<'a> Item<'a> {
         }
     }
 
-    /// The text that the item is, if it is one.
+    /// The text string that the item is, if it is one and UTF-8.
     #[tactic(auto, unfolding(crate::specs::Views::utf8_text_of))]
     pub fn text(self) -> Option<&'a str>
         ensures { option_map (λ s. s.now) result ≡ utf8_text_of (span_of self.entry) }
@@ -159,7 +162,7 @@ impl<'a> Item<'a> {
         }
     }
 
-    /// The number of a tag and the item that it stands on, if the item is a tag.
+    /// The number of the tag and the item that it tags, if the item is a tag.
     #[tactic(auto, unfolding(crate::specs::Views::tag_of))]
     pub fn tag(self) -> Option<(u64, Item<'a>)>
         ensures { option_map (λ t. (t.0, span_of t.1)) result ≡ tag_of (span_of self.entry) }
@@ -173,7 +176,7 @@ impl<'a> Item<'a> {
         }
     }
 
-    /// The keys and values of a map, in written order, and nothing for any other item.
+    /// The keys and values of a map, in written order. Any other item has none.
     #[tactic(auto, unfolding(crate::specs::Views::pairs_of), using(crate::proofs::Counts::entries_count))]
     pub fn entries(self) -> Entries<'a>
         ensures left { entries_left result ≡ entries_of (span_of self.entry) }
@@ -189,7 +192,7 @@ impl<'a> Item<'a> {
         }
     }
 
-    /// The items directly inside, whatever the item is.
+    /// The items directly inside the item: elements, keys and values, or the item that is tagged.
     #[tactic(auto, unfolding(crate::specs::Views::inside_of))]
     pub(crate) fn inside(self) -> Items<'a>
         ensures { items_left result ≡ items_in (inside_of (span_of self.entry)) }
@@ -221,7 +224,7 @@ impl<'a> Item<'a> {
     }
 }
 
-/// The bytes without the break at their end.
+/// The bytes without the break at the end.
 fn before_break(bytes: &[u8]) -> &[u8]
     ensures { result.now ≡ before_break bytes.now }
 {
@@ -238,7 +241,7 @@ fn utf8_text(bytes: &[u8]) -> Option<&str>
     }
 }
 
-/// The elements of a list that are left.
+/// An iterator over the elements of a list.
 #[derive(Clone, Copy)]
 pub struct Items<'a> {
     rest: &'a [u8],
@@ -264,7 +267,7 @@ impl<'a> Iterator for Items<'a> {
     }
 }
 
-/// The entries of a map that are left.
+/// An iterator over the entries of a map.
 #[derive(Clone, Copy)]
 pub struct Entries<'a> {
     items: Items<'a>,

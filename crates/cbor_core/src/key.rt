@@ -1,22 +1,22 @@
-//! The keys of a map, and whether one of them is doubled.
+//! Whether the keys of a map are distinct.
 
 ghost use Rattle.std.specs.Prelude.{◌≡◌, ◌∷◌, map};
 ghost use Rattle.cbor_core.specs.Keys.{key_of, same_key, keys_differ, neighbours_differ};
-ghost use Rattle.cbor_core.specs.KeySeen.{meaning_of};
+ghost use Rattle.cbor_core.specs.code.KeySeen.{meaning_of};
 
 use crate::head::{Head, head_at};
 
-/// A key as keys are compared: two are the same where this is equal.
+/// A key by what it is compared by: two keys of a map are the same where these are equal.
 #[derive(Clone, Copy, PartialEq, Eq, PartialOrd, Ord)]
 pub enum Key<'a> {
     Whole(i128),
     Text(&'a [u8]),
     Bytes(&'a [u8]),
-    /// Any other item, by its own bytes.
+    /// Any other item, by the bytes of its encoding.
     Other(&'a [u8]),
 }
 
-/// What an item of these bytes is as a key.
+/// The key that the item with these bytes is.
 #[tactic(auto, unfolding(crate::specs::Keys::key_of))]
 pub(crate) fn key_of(bytes: &[u8]) -> Key<'_>
     ensures { meaning_of result ≡ key_of bytes.now }
@@ -33,14 +33,14 @@ pub(crate) fn key_of(bytes: &[u8]) -> Key<'_>
     }
 }
 
-/// Whether the two are the same key.
+/// Whether the two keys are the same.
 fn is_same(a: &Key, b: &Key) -> bool
     ensures { result ≡ same_key (meaning_of a.now) (meaning_of b.now) }
 {
     a == b
 }
 
-/// Whether no key is the same as the one before it.
+/// Whether every key differs from the one before it.
 fn neighbours_differ(keys: &[Key]) -> bool
     ensures { result ≡ neighbours_differ (map meaning_of keys.now) }
 {
@@ -57,7 +57,7 @@ fn neighbours_differ(keys: &[Key]) -> bool
     true
 }
 
-/// Whether no key comes twice. The keys are sorted, so that the time is linear up to a logarithm.
+/// Whether the keys are distinct. They are sorted first, which takes time n log n for n keys.
 pub(crate) fn are_different(keys: Vec<Key>) -> bool
     ensures { result ≡ keys_differ (map meaning_of keys.entry.items) }
 {

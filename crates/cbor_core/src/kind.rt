@@ -1,6 +1,6 @@
 //! The kinds of items.
 
-/// What an item is.
+/// The kind of an item.
 #[derive(Clone, Copy, Debug, PartialEq, Eq)]
 pub enum Kind {
     /// An integer, from -2^64 to 2^64 - 1.
@@ -13,6 +13,6 @@ pub enum Kind {
     Tag,
     Truth,
     Null,
-    /// A float, undefined, or a simple value that has no name.
+    /// A float, undefined, or an unassigned simple value.
     Other,
 }

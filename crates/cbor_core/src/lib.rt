@@ -1,4 +1,4 @@
-//! CBOR items (RFC 8949), read where they lie and written in the one deterministic way.
+//! CBOR items (RFC 8949): reading without copying, and deterministic writing (section 4.2.1).
 #![tactic(auto)]
 
 mod error;

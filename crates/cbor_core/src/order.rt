@@ -17,7 +17,7 @@ fn lent_pairs(alloc: Global, pairs: &[(Vec<u8>, Vec<u8>)]) -> Result<Vec<(&[u8],
     Ok(order)
 }
 
-/// The pairs, borrowed, with their keys in bytewise order.
+/// The pairs, borrowed, in the bytewise order of their keys.
 pub fn in_order(
     alloc: Global,
     pairs: &[(Vec<u8>, Vec<u8>)],

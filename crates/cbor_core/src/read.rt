@@ -2,7 +2,7 @@
 
 ghost use Rattle.std.specs.Prelude.{◌≡◌, ◌≤◌, Some, None, IfOk, IfErr};
 ghost use Rattle.cbor_core.specs.Seen.{span_of};
-ghost use Rattle.cbor_core.specs.Fine.{fine_at};
+ghost use Rattle.cbor_core.specs.code.Fine.{fine_at};
 ghost use Rattle.cbor_core.specs.Rules.{each_inside, is_fine_text, rule_of, broken_rule};
 ghost use Rattle.cbor_core.specs.Refusal.{IsRefusal};
 
@@ -12,7 +12,7 @@ use crate::head::{Fault, MAX_DEPTH};
 use crate::item::Item;
 use std::alloc::Global;
 
-/// Is the item no text that is not UTF-8?
+/// Whether the item is UTF-8, if it is a text string.
 #[tactic(auto, unfolding(crate::specs::Rules::is_fine_text))]
 fn is_text_fine(item: Item) -> bool
     ensures { result ≡ is_fine_text (span_of item.entry) }
@@ -23,7 +23,7 @@ fn is_text_fine(item: Item) -> bool
     }
 }
 
-/// Is each text in the item UTF-8?
+/// Whether each text string in the item is UTF-8.
 #[tactic(auto, using(crate::proofs::Inside::each_fails, crate::proofs::Inside::each_flat, crate::proofs::Inside::each_deep))]
 fn texts_are_utf8(item: Item, depth: u32) -> bool
     ensures { result ≡ each_inside is_fine_text depth (span_of item.entry) }
@@ -42,6 +42,7 @@ fn texts_are_utf8(item: Item, depth: u32) -> bool
     true
 }
 
+/// The number of the rule that is broken.
 fn rule_of(fault: Fault) -> u8
     ensures { result ≡ rule_of fault }
 {
@@ -53,7 +54,7 @@ fn rule_of(fault: Fault) -> u8
     }
 }
 
-/// The rule that bytes break which have no item at the front that is fine.
+/// The rule that the bytes break. They do not begin with a fine item.
 #[tactic(auto, unfolding(crate::specs::Rules::broken_rule), using(crate::proofs::Inside::wrong_maps))]
 fn front_rule(bytes: &[u8], depth: u32) -> u8
     requires depth { depth ≤ MAX_DEPTH }
@@ -67,16 +68,16 @@ fn front_rule(bytes: &[u8], depth: u32) -> u8
     }
 }
 
-/// The one CBOR item (RFC 8949) that the bytes are, in which at most `depth` lists, maps and tags lie
-/// inside one another. Heads may have any length, and lists and maps may be indefinite.
+/// The one CBOR item (RFC 8949) that the bytes are. At most `depth` lists, maps and tags may stand inside one
+/// another. Heads may have any length, and lists and maps may be indefinite.
 ///
 /// # Errors
 ///
-/// `Refused` with the broken rule: 1 the bytes end within the item, 2 a reserved head, 3 a string in
-/// chunks, 4 a text that is not UTF-8, 5 a key doubled in a map, 6 more lists, maps and tags inside
-/// one another than `depth`, 7 bytes are left over. Of 1, 2, 3 and 6 it is the one that is met first,
-/// head by head from the front; where none of these is broken, the least of 4, 5 and 7. And want of
-/// memory.
+/// `Refused` with the number of the broken rule: 1 the bytes end within the item, 2 a reserved head, 3 a
+/// string in chunks, 4 a text string that is not UTF-8, 5 a key that a map has twice, 6 more than `depth`
+/// lists, maps and tags inside one another, 7 bytes after the item. If heads break rule 1, 2, 3 or 6, it is
+/// the rule that the first such head breaks. Otherwise it is the least broken rule of 4, 5 and 7. `NoMemory`
+/// when out of memory.
 #[tactic(auto, unfolding(crate::specs::Rules::broken_rule), using(crate::proofs::Inside::before_nothing, crate::proofs::Inside::fine_texts, crate::proofs::Inside::fine_maps))]
 pub fn read_one<'a>(alloc: Global, bytes: &'a [u8], depth: u32) -> Result<Item<'a>, Error>
     requires { depth ≤ 64 }

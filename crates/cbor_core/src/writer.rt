@@ -1,7 +1,9 @@
-//! Items written in the one deterministic way (RFC 8949, section 4.2.1).
+//! Deterministic writing of items (RFC 8949, section 4.2.1).
 
-ghost use Rattle.std.specs.Prelude.{◌≡◌, ◌++◌, ◌∷◌, [], ◌<◌, ◌^◌, ◌-◌, ◌≤ℤ◌, ◌<ℤ◌, pos, negsuc, length, IfOk, OnOk, OnErr};
-ghost use Rattle.cbor_core.specs.Writing.{head_bytes, whole_bytes, string_bytes, text_bytes, byte_string_bytes, truth_bytes, null_bytes, pairs_bytes};
+ghost use Rattle.std.specs.Prelude.{◌≡◌, ◌++◌, ◌∷◌, [], ◌<◌, ◌^◌, ◌-◌, ◌≤ℤ◌, ◌<ℤ◌, pos, negsuc, length, IfOk};
+ghost use Rattle.std.specs.Prelude.{OnOk, OnErr};
+ghost use Rattle.cbor_core.specs.Writing.{head_bytes, whole_bytes, string_bytes, text_bytes};
+ghost use Rattle.cbor_core.specs.Writing.{byte_string_bytes, truth_bytes, null_bytes, pairs_bytes};
 ghost use Rattle.cbor_core.specs.Order.{owned, lent, AppendsSortedMap};
 
 use crate::error::NoMemory;
@@ -40,7 +42,7 @@ fn put_head(out: &mut Vec<u8>, major: u8, n: u64) -> Result<(), NoMemory>
     Ok(())
 }
 
-/// Appends a byte string or a text. An `Err` changes nothing.
+/// Appends a byte string or a text string. An `Err` changes nothing.
 fn put_string(out: &mut Vec<u8>, major: u8, content: &[u8]) -> Result<(), NoMemory>
     requires { major < 8 }
     ensures ok { OnOk result (out.new.items ≡ out.old.items ++ string_bytes major content.now) }
@@ -68,7 +70,7 @@ fn put_pairs(out: &mut Vec<u8>, pairs: &[(&[u8], &[u8])]) -> Result<(), NoMemory
     Ok(())
 }
 
-/// A map whose keys are in bytewise order.
+/// The map of these pairs, in the bytewise order of their keys.
 fn sorted_map(alloc: Global, pairs: &[(Vec<u8>, Vec<u8>)]) -> Result<Vec<u8>, NoMemory>
     ensures { IfOk result (λ map. AppendsSortedMap [] map.items (owned pairs.now)) }
 {
@@ -79,9 +81,9 @@ fn sorted_map(alloc: Global, pairs: &[(Vec<u8>, Vec<u8>)]) -> Result<Vec<u8>, No
     Ok(map)
 }
 
-/// Writes items one after another, each in the one deterministic way: shortest heads, definite
-/// lengths, and the keys of a map in bytewise order of their encodings. Contracts see the bytes that
-/// were written. A call that wants memory writes nothing.
+/// Writes items one after another, with the shortest heads, definite lengths, and the keys of a map in the
+/// bytewise order of their encodings. Contracts see the bytes that were written. A call that fails writes
+/// nothing.
 #[derive(Drop)]
 pub struct Writer {
     out: Vec<u8>,
@@ -104,7 +106,7 @@ impl Writer {
         }
     }
 
-    /// Writes a whole number, from -2^64 to 2^64 - 1.
+    /// Writes an integer, from -2^64 to 2^64 - 1.
     pub fn whole(&mut self, n: i128) -> Result<(), NoMemory>
         requires low { negsuc (2 ^ 64 - 1) ≤ℤ n }
         requires high { n <ℤ pos (2 ^ 64) }
@@ -118,7 +120,7 @@ impl Writer {
         }
     }
 
-    /// Writes a text.
+    /// Writes a text string.
     pub fn text(&mut self, text: &str) -> Result<(), NoMemory>
         ensures ok { OnOk result (self.new ≡ self.old ++ text_bytes text.now) }
         ensures err { OnErr result (self.new ≡ self.old) }
@@ -134,7 +136,7 @@ impl Writer {
         put_string(&mut self.out, 2, bytes)
     }
 
-    /// Writes the head of a list of `n` items, which are to follow.
+    /// Writes the head of a list of `n` items. The items follow.
     pub fn list(&mut self, n: u64) -> Result<(), NoMemory>
         ensures ok { OnOk result (self.new ≡ self.old ++ head_bytes 4 n) }
         ensures err { OnErr result (self.new ≡ self.old) }
@@ -142,7 +144,7 @@ impl Writer {
         put_head(&mut self.out, 4, n)
     }
 
-    /// Writes a tag, on the item that is to follow.
+    /// Writes the head of a tag. The item that is tagged follows.
     pub fn tag(&mut self, n: u64) -> Result<(), NoMemory>
         ensures ok { OnOk result (self.new ≡ self.old ++ head_bytes 6 n) }
         ensures err { OnErr result (self.new ≡ self.old) }
@@ -150,7 +152,7 @@ impl Writer {
         put_head(&mut self.out, 6, n)
     }
 
-    /// Writes a truth value.
+    /// Writes a boolean.
     pub fn truth(&mut self, truth: bool) -> Result<(), NoMemory>
         ensures ok { OnOk result (self.new ≡ self.old ++ truth_bytes truth) }
         ensures err { OnErr result (self.new ≡ self.old) }
@@ -168,7 +170,7 @@ impl Writer {
         Ok(())
     }
 
-    /// Writes bytes as they are, as an item that is written already.
+    /// Writes the bytes as they are, such as an encoded item.
     pub fn raw(&mut self, bytes: &[u8]) -> Result<(), NoMemory>
         ensures ok { OnOk result (self.new ≡ self.old ++ bytes.now) }
         ensures err { OnErr result (self.new ≡ self.old) }
@@ -177,8 +179,7 @@ impl Writer {
         Ok(())
     }
 
-    /// Writes a map of these keys and values, each of which is an item's encoding. The keys should
-    /// differ: of equal ones any may stand first.
+    /// Writes the map of these keys and values, each of them an encoded item. Equal keys stand in any order.
     pub fn sorted_map(&mut self, pairs: &[(Vec<u8>, Vec<u8>)]) -> Result<(), NoMemory>
         ensures ok { OnOk result (AppendsSortedMap self.old self.new (owned pairs.now)) }
         ensures err { OnErr result (self.new ≡ self.old) }

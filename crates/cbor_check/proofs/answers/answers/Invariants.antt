@@ -1,7 +1,7 @@
 use Rattle.std.proofs.Common.{◌≡◌, ◌++◌, length, string_bytes}
 use denote.Shadow.{shadow}
 use denote.Text.{Utf8}
-use Rattle.program_steps.specs.Lines.{lines_of}
+use Rattle.base_forms.specs.Lines.{lines_of}
 use Rattle.cbor_check.specs.Answers.{answers}
 use Rattle.cbor_check.proofs.answers.answers.Given as goal
 

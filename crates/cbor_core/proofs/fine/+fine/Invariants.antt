@@ -1,8 +1,8 @@
 use Rattle.std.proofs.Common.{◌≡◌, length, ◌+◌, ◌-◌, ◌*◌, map}
 use Rattle.cbor_core.specs.Views.{before_break}
 use Rattle.cbor_core.specs.Item.{pair_at, times, up_to_break, item_at}
-use Rattle.cbor_core.specs.Fine.{checked, are_fine, are_entries_fine}
-use Rattle.cbor_core.specs.KeySeen.{meaning_of}
+use Rattle.cbor_core.specs.code.Fine.{checked, are_fine, are_entries_fine}
+use Rattle.cbor_core.specs.code.KeySeen.{meaning_of}
 use Rattle.cbor_core.proofs.OneWalk.{entries_after}
 use Rattle.cbor_core.proofs.fine.+fine.Given as goal
 
@@ -31,13 +31,25 @@ abbrev pub decreases-after_entries_to_break : goal.decreases-after_entries_to_br
 decreases-after_entries_to_break l = 4 * l.depth + 2
 
 abbrev pub invariant-after_items-loop : goal.invariant-after_items-loop
-invariant-after_items-loop l = checked (are_fine l.depth) (times (item_at l.depth) (l.count - l.counter)) l.rest ≡ checked (are_fine l.depth) (times (item_at l.depth) l.count) l.bytes
+invariant-after_items-loop l =
+    checked (are_fine l.depth) (times (item_at l.depth) (l.count - l.counter)) l.rest ≡ checked
+    (are_fine l.depth) (times (item_at l.depth) l.count) l.bytes
 
 abbrev pub invariant-after_items_to_break-loop : goal.invariant-after_items_to_break-loop
-invariant-after_items_to_break-loop l = checked (λ c. are_fine l.depth (before_break c)) (up_to_break (item_at l.depth) (l.end - l.counter)) l.rest ≡ checked (λ c. are_fine l.depth (before_break c)) (up_to_break (item_at l.depth) (length l.bytes)) l.bytes
+invariant-after_items_to_break-loop l =
+    checked (λ c. are_fine l.depth (before_break c))
+    (up_to_break (item_at l.depth) (l.end - l.counter)) l.rest ≡ checked
+    (λ c. are_fine l.depth (before_break c)) (up_to_break (item_at l.depth) (length l.bytes)) l.bytes
 
 abbrev pub invariant-after_entries-loop : goal.invariant-after_entries-loop
-invariant-after_entries-loop l = checked (entries_after l.depth (map meaning_of l.keys.items)) (times (pair_at (item_at l.depth)) (l.count - l.counter)) l.rest ≡ checked (are_entries_fine l.depth) (times (pair_at (item_at l.depth)) l.count) l.bytes
+invariant-after_entries-loop l =
+    checked (entries_after l.depth (map meaning_of l.keys.items))
+    (times (pair_at (item_at l.depth)) (l.count - l.counter)) l.rest ≡ checked (are_entries_fine l.depth)
+    (times (pair_at (item_at l.depth)) l.count) l.bytes
 
 abbrev pub invariant-after_entries_to_break-loop : goal.invariant-after_entries_to_break-loop
-invariant-after_entries_to_break-loop l = checked (λ c. entries_after l.depth (map meaning_of l.keys.items) (before_break c)) (up_to_break (pair_at (item_at l.depth)) (l.end - l.counter)) l.rest ≡ checked (λ c. are_entries_fine l.depth (before_break c)) (up_to_break (pair_at (item_at l.depth)) (length l.bytes)) l.bytes
+invariant-after_entries_to_break-loop l =
+    checked (λ c. entries_after l.depth (map meaning_of l.keys.items) (before_break c))
+    (up_to_break (pair_at (item_at l.depth)) (l.end - l.counter)) l.rest ≡ checked
+    (λ c. are_entries_fine l.depth (before_break c))
+    (up_to_break (pair_at (item_at l.depth)) (length l.bytes)) l.bytes

@@ -5,8 +5,8 @@ use Rattle.cbor_core.specs.declared.key.Key.{Key}
 use Rattle.cbor_core.specs.declared.key.Key.TheVariants.{Whole, Text, Bytes, Other}
 use Rattle.cbor_core.specs.contracts.key.KeyOrd.TheImpl.{cmp-value}
 use Rattle.cbor_core.specs.contracts.key.KeyOrd.TheImpl.Laws.{total-law}
-use Rattle.cbor_core.specs.Keys.{same_key, keys_differ, neighbours_differ}
-use Rattle.cbor_core.specs.KeySeen.{meaning_of}
+use Rattle.cbor_core.specs.Keys.{same_key, neighbours_differ}
+use Rattle.cbor_core.specs.code.KeySeen.{meaning_of}
 use Rattle.cbor_core.proofs.Keys.{neighbours_decide}
 use Rattle.cbor_core.proofs.key.are_different.Goals as goal
 
@@ -33,4 +33,5 @@ pub returns : goal.returns
 returns c =
     c.neighbours_differ.ensures
     ∙ ap (λ ks. neighbours_differ (map meaning_of ks)) c.deref.ensures.value
-    ∙ neighbours_decide _ total-law meaning_of same c.args.keys.items c.sort_unstable.new.self.items c.sort_unstable.ensures.permutation c.sort_unstable.ensures.sorted
+    ∙ neighbours_decide _ total-law meaning_of same c.args.keys.items c.sort_unstable.new.self.items
+    c.sort_unstable.ensures.permutation c.sort_unstable.ensures.sorted

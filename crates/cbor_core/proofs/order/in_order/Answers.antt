@@ -9,7 +9,13 @@ use Rattle.cbor_core.proofs.order.in_order.Goals as goal
 pub returns : goal.returns
 returns c =
     let sorted = c.sort_unstable_by_key.new.self.items in
-    let same : IsPermutation (lent c.in_ok-order.order.items) (lent sorted) = IsPermutation-map (λ (p : Bor (List ℕ) × Bor (List ℕ)). (p.0.now, p.1.now)) _ _ c.sort_unstable_by_key.ensures.permutation in (
+    let same : IsPermutation (lent c.in_ok-order.order.items) (lent sorted) =
+    IsPermutation-map
+    (λ (p : Bor (List ℕ) × Bor (List ℕ)). (p.0.now, p.1.now)) _ _
+    c.sort_unstable_by_key.ensures.permutation in (
       subst (λ (x : List Pair). IsPermutation x (lent sorted)) c.in_ok-order.ensures same,
-      sorted-map (λ (p : Bor (List ℕ) × Bor (List ℕ)). (p.0.now, p.1.now)) (λ (a b : Pair). is_lt (slice_cmp nat_cmp a.0 b.0)) sorted (c.sort_unstable_by_key.ensures.sorted (λ p. p.0) (answers_always _ _ _ (λ f a r g h. search rules))),
+      sorted-map (λ (p : Bor (List ℕ) × Bor (List ℕ)). (p.0.now, p.1.now))
+          (λ (a b : Pair). is_lt (slice_cmp nat_cmp a.0 b.0)) sorted
+          (c.sort_unstable_by_key.ensures.sorted (λ p. p.0)
+          (answers_always _ _ _ (λ f a r g h. search rules))),
     )
