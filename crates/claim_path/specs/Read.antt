@@ -1,5 +1,6 @@
 -- Claims path pointers and the values of a claim, in JSON (OpenID4VP 1.0, sections 6.3 and 7).
-use Rattle.std.specs.Prelude.{ℕ, Bool, not, is_some, is_none, nat_lt, ◌||◌, List, [], ◌∷◌, length, filter_map, Option, Some, None, option_map, Result}
+use Rattle.std.specs.Prelude.{ℕ, Bool, not, is_some, is_none, nat_lt, ◌||◌, List, [], ◌∷◌, length, filter_map}
+use Rattle.std.specs.Prelude.{Option, Some, None, option_map, Result}
 use Rattle.std.specs.List.{list_all}
 use Rattle.serde_json.specs.Data.{Data, null, boolean, number, string, array, object}
 use Rattle.serde_json.specs.Find.{as_array, as_u64, as_integer}
@@ -10,7 +11,7 @@ use Rattle.claim_path.specs.declared.path.Scalar.TheVariants.{Text, Whole, Truth
 use Rattle.json_forms.specs.Look.{elements_of, is_empty}
 use Rattle.base_forms.specs.Rules.{rule, first, unless_broken}
 
--- a step is a text, null, or a whole number from 0
+-- a step is a string, null, or an integer from 0 to 2^64 - 1
 abbrev pub step_of : Data → Option PathStep
 step_of null = Some Every
 step_of (boolean b) = None
@@ -38,7 +39,7 @@ steps_of d = filter_map step_of (elements_of d)
 abbrev pub path_of : Data → Result (List PathStep) ℕ
 path_of d = unless_broken (path_rule d) (steps_of d)
 
--- a value is a text, a whole number or a truth value
+-- a value is a string, an integer or a boolean
 abbrev pub scalar_of : Data → Option Scalar
 scalar_of null = None
 scalar_of (boolean b) = Some (Truth b)
@@ -50,9 +51,11 @@ scalar_of (object ms) = None
 abbrev pub are_scalars : List Data → Bool
 are_scalars ds = list_all (λ s. is_some (scalar_of s)) ds
 
--- 1 no list of one to 32 texts, whole numbers and truth values
+-- 1 no list of 1 to 32 strings, integers and booleans
 abbrev pub values_rule : Data → Option ℕ
-values_rule d = rule 1 (is_empty (elements_of d) || not (are_scalars (elements_of d)) || nat_lt 32 (length (elements_of d)))
+values_rule d =
+    rule 1
+    (is_empty (elements_of d) || not (are_scalars (elements_of d)) || nat_lt 32 (length (elements_of d)))
 
 abbrev pub scalars_of : Data → List Scalar
 scalars_of d = filter_map scalar_of (elements_of d)

@@ -3,9 +3,12 @@
 -- Each step maps the whole selection, which begins with the root:
 --   a name    each record gives its member of that name, or drops out where it has none
 --   null      each list gives all its elements
---   a number  each list gives its element at that place from 0, or drops out where it has none; a loose list drops out
--- A step makes the whole path wrong where any selected element is of another kind, and so does an empty selection.
-use Rattle.std.specs.Prelude.{ℕ, ◌+◌, true, false, List, [], ◌∷◌, ◌++◌, Option, Some, None, option_map, option_and_then}
+--   a number  each list gives its element at that place from 0, or drops out where it has none; a loose list
+--   drops out
+-- A step makes the whole path wrong where any selected element is of another kind, and so does an empty
+-- selection.
+use Rattle.std.specs.Prelude.{ℕ, ◌+◌, true, false, List, [], ◌∷◌, ◌++◌, Option, Some, None, option_map}
+use Rattle.std.specs.Prelude.{option_and_then}
 use Rattle.std.specs.List.{slice_get}
 use Rattle.std.specs.Option.{option_to_list}
 use Rattle.claim_tree.specs.Tree.{Tree, ListOf, RecordOf, element_trees, member_at}
@@ -28,10 +31,12 @@ spots_from a n (t ∷ ts) = (a ++ to.Place n ∷ [], t) ∷ spots_from a (n + 1)
 
 -- What a step makes of one element: nothing, one or many, or `None` where it makes the path wrong.
 abbrev pub step : PathStep → Spot → Option (List Spot)
-step (Member k) (a, RecordOf ms) = Some (option_to_list (option_map (λ t. (a ++ to.Name k ∷ [], t)) (member_at k ms)))
+step (Member k) (a, RecordOf ms) =
+    Some (option_to_list (option_map (λ t. (a ++ to.Name k ∷ [], t)) (member_at k ms)))
 step Every (a, ListOf loose es) = Some (spots_from a 0 (element_trees es))
 step (Place i) (a, ListOf true es) = Some []
-step (Place i) (a, ListOf false es) = Some (option_to_list (option_map (λ t. (a ++ to.Place i ∷ [], t)) (slice_get (element_trees es) i)))
+step (Place i) (a, ListOf false es) =
+    Some (option_to_list (option_map (λ t. (a ++ to.Place i ∷ [], t)) (slice_get (element_trees es) i)))
 step _ _ = None
 
 -- both, or `None` where one of them is wrong

@@ -1,8 +1,10 @@
 // Paths and values from JSON.
-ghost use Rattle.std.specs.Prelude.{◌≡◌, Ok, IfOk, IfErr, map, filter_map, is_some, option_map, nat_lt, length};
+ghost use Rattle.std.specs.Prelude.{◌≡◌, Ok, None, IfOk, IfErr, map, filter_map, is_some, option_map, nat_lt};
+ghost use Rattle.std.specs.Prelude.{length};
 ghost use Rattle.serde_json.specs.View.{view};
 ghost use Rattle.json_forms.specs.Look.{elements_of};
-ghost use Rattle.claim_path.specs.Read.{step_of, are_steps, are_scalars, path_rule, path_of, scalar_of, values_rule, values_of};
+ghost use Rattle.claim_path.specs.Read.{step_of, are_steps, path_rule, steps_of, path_of};
+ghost use Rattle.claim_path.specs.Read.{scalar_of, are_scalars, values_rule, scalars_of, values_of};
 ghost use Rattle.claim_path.specs.Refusal.{IsRefusal};
 
 use crate::error::{Error, NoMemory};
@@ -19,12 +21,12 @@ const MOST_STEPS: usize = 16;
 const MOST_VALUES: usize = 32;
 
 impl Path {
-    /// The path that a JSON value is: a list of 1 to 16 steps, each a text, null or a whole number
-    /// from 0 to 2^64 - 1.
+    /// The path that a JSON value is: a list of 1 to 16 steps, each a string, null or an integer from
+    /// 0 to 2^64 - 1.
     ///
     /// # Errors
     ///
-    /// The first broken rule, as [`path_rule`] gives it, and want of memory.
+    /// The first broken rule, as [`path_rule`] gives it, or out of memory.
     pub fn from_json(alloc: Global, value: &Value) -> Result<Path, Error>
         ensures ok { IfOk result (λ p. path_of (view value.now) ≡ Ok p) }
         ensures refused { IfErr result (λ e. IsRefusal (path_of (view value.now)) e) }
@@ -32,26 +34,26 @@ impl Path {
         if let Some(rule) = path_rule(value) {
             return Err(Error::Refused(rule));
         }
-        Ok(Path::listed(alloc, elements(value))?)
+        Ok(Path::from_valid(alloc, value)?)
     }
 
-    /// The path of the steps among these values. What is no step is passed over, so a caller looks
-    /// at [`path_rule`] before.
-    pub fn listed(alloc: Global, values: &[Value]) -> Result<Path, NoMemory>
-        ensures { IfOk result (λ p. p ≡ filter_map step_of (map view values.now)) }
+    /// The path that a JSON value is which breaks none of the rules of [`path_rule`].
+    pub fn from_valid(alloc: Global, value: &Value) -> Result<Path, NoMemory>
+        requires { path_rule (view value.now) ≡ None }
+        ensures { IfOk result (λ p. p ≡ steps_of (view value.now)) }
     {
-        let steps = read_steps(alloc, values)?;
+        let steps = read_steps(alloc, elements(value))?;
         Ok(Path { steps })
     }
 }
 
 impl Values {
-    /// The values that a JSON value is: a list of 1 to 32 texts, whole numbers from -2^63 to
-    /// 2^64 - 1 and truth values.
+    /// The values that a JSON value is: a list of 1 to 32 strings, integers from -2^63 to 2^64 - 1 and
+    /// booleans.
     ///
     /// # Errors
     ///
-    /// The broken rule, as [`values_rule`] gives it, and want of memory.
+    /// The broken rule, as [`values_rule`] gives it, or out of memory.
     pub fn from_json(alloc: Global, value: &Value) -> Result<Values, Error>
         ensures ok { IfOk result (λ v. values_of (view value.now) ≡ Ok v) }
         ensures refused { IfErr result (λ e. IsRefusal (values_of (view value.now)) e) }
@@ -59,21 +61,21 @@ impl Values {
         if let Some(rule) = values_rule(value) {
             return Err(Error::Refused(rule));
         }
-        Ok(Values::listed(alloc, elements(value))?)
+        Ok(Values::from_valid(alloc, value)?)
     }
 
-    /// The texts, whole numbers and truth values among these values. All else is passed over, so a
-    /// caller looks at [`values_rule`] before.
-    pub fn listed(alloc: Global, values: &[Value]) -> Result<Values, NoMemory>
-        ensures { IfOk result (λ v. v ≡ filter_map scalar_of (map view values.now)) }
+    /// The values that a JSON value is which does not break the rule of [`values_rule`].
+    pub fn from_valid(alloc: Global, value: &Value) -> Result<Values, NoMemory>
+        requires { values_rule (view value.now) ≡ None }
+        ensures { IfOk result (λ v. v ≡ scalars_of (view value.now)) }
     {
-        let members = read_scalars(alloc, values)?;
+        let members = read_scalars(alloc, elements(value))?;
         Ok(Values { members })
     }
 }
 
-/// The first rule that a path in JSON breaks: 1 no list, 2 empty, 3 a step that is no text, null or
-/// whole number from 0 to 2^64 - 1, 4 more than 16 steps. It takes no memory.
+/// The first rule that a path in JSON breaks: 1 no list, 2 empty, 3 a step that is no string, null or
+/// integer from 0 to 2^64 - 1, 4 more than 16 steps. It takes no memory.
 #[tactic(auto, unfolding(base_forms::specs::Rules::rule))]
 pub fn path_rule(value: &Value) -> Option<u8>
     ensures { result ≡ path_rule (view value.now) }
@@ -92,8 +94,8 @@ pub fn path_rule(value: &Value) -> Option<u8>
     }
 }
 
-/// The rule that the values of a claim in JSON break: 1 no list of 1 to 32 texts, whole numbers from
-/// -2^63 to 2^64 - 1 and truth values. It takes no memory.
+/// The rule that the values of a claim in JSON break: 1 no list of 1 to 32 strings, integers from
+/// -2^63 to 2^64 - 1 and booleans. It takes no memory.
 #[tactic(auto, unfolding(base_forms::specs::Rules::rule))]
 pub fn values_rule(value: &Value) -> Option<u8>
     ensures { result ≡ values_rule (view value.now) }
@@ -125,23 +127,13 @@ fn are_too_many_values(values: &[Value]) -> bool
 fn are_steps(values: &[Value]) -> bool
     ensures { result ≡ are_steps (map view values.now) }
 {
-    for value in values {
-        if !is_step(value) {
-            return false;
-        }
-    }
-    true
+    values.iter().all(|value| is_step(value))
 }
 
 fn are_scalars(values: &[Value]) -> bool
     ensures { result ≡ are_scalars (map view values.now) }
 {
-    for value in values {
-        if !is_scalar(value) {
-            return false;
-        }
-    }
-    true
+    values.iter().all(|value| is_scalar(value))
 }
 
 fn is_step(value: &Value) -> bool
@@ -181,7 +173,7 @@ fn read_step(alloc: Global, value: &Value) -> Result<Option<PathStep>, NoMemory>
 {
     match value {
         Value::Null => Ok(Some(PathStep::Every)),
-        Value::String(text) => Ok(Some(PathStep::Member(Name::new(alloc, text.as_str())?))),
+        Value::String(string) => Ok(Some(PathStep::Member(Name::new(alloc, string.as_str())?))),
         Value::Number(number) => match number.as_u64() {
             Some(place) => Ok(Some(PathStep::Place(place))),
             None => Ok(None),
@@ -206,10 +198,10 @@ fn read_scalar(alloc: Global, value: &Value) -> Result<Option<Scalar>, NoMemory>
     ensures { IfOk result (λ s. s ≡ scalar_of (view value.now)) }
 {
     match value {
-        Value::Bool(truth) => Ok(Some(Scalar::Truth(*truth))),
-        Value::String(text) => Ok(Some(Scalar::Text(Name::new(alloc, text.as_str())?))),
+        Value::Bool(boolean) => Ok(Some(Scalar::Truth(*boolean))),
+        Value::String(string) => Ok(Some(Scalar::Text(Name::new(alloc, string.as_str())?))),
         Value::Number(number) => match number.as_i128() {
-            Some(whole) => Ok(Some(Scalar::Whole(whole))),
+            Some(integer) => Ok(Some(Scalar::Whole(integer))),
             None => Ok(None),
         },
         _ => Ok(None),

@@ -1,15 +1,15 @@
--- Which claim trees have what a claim set asks for (OpenID for Verifiable Presentations 1.0, sections 6.3, 6.4.1 and 7).
+-- Which claim trees have what a claim set asks for (OpenID4VP 1.0, sections 6.3, 6.4.1 and 7).
 use Rattle.std.specs.Prelude.{ℕ, Bool, false, nat_lt, List, [], length, slice_get}
 use Rattle.std.specs.List.{list_all}
 use Rattle.std.specs.Option.{option_map_or, unwrap_or}
 use Rattle.claim_tree.specs.Tree.{Tree}
 use Rattle.claim_path.specs.Hits.{hits}
-use Rattle.dcql_query.specs.declared.query.Claim.{Claim}
-use Rattle.dcql_query.specs.Query.{Credential}
+use Rattle.dcql_query.specs.Query.{Claim, Credential}
 
 -- the claim at place i has hits
 abbrev pub has_hits_at : List Claim → Tree → ℕ → Bool
-has_hits_at claims t i = option_map_or (λ c. nat_lt 0 (length (hits c.path c.values t))) (slice_get claims i) false
+has_hits_at claims t i =
+    option_map_or (λ c. nat_lt 0 (length (hits c.path c.values t))) (slice_get claims i) false
 
 -- the claims at these places all have hits
 abbrev pub have_hits : List Claim → Tree → List ℕ → Bool

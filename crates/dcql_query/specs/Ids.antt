@@ -1,4 +1,5 @@
--- Ids of credential queries and of claims, and the lists that name them (OpenID for Verifiable Presentations 1.0, sections 6.1, 6.3 and 6.4).
+-- Ids of credential queries and of claims, and the lists that name them (OpenID4VP 1.0, sections 6.1, 6.3 and
+-- 6.4).
 use Rattle.std.specs.Prelude.{ℕ, Bool, false, not, ◌&&◌, ◌||◌, ◌==◌, nat_le, is_some, List, [], ◌∷◌, codes}
 use Rattle.std.specs.Option.{option_map_or}
 use Rattle.std.specs.List.{list_all, list_any}
@@ -14,7 +15,7 @@ is_between low high x = nat_le low x && nat_le x high
 abbrev pub is_id_byte : ℕ → Bool
 is_id_byte x = is_between 65 90 x || is_between 97 122 x || is_between 48 57 x || (x == 95) || (x == 45)
 
--- a text that is not empty, of such characters
+-- the form of an id: a string of one or more such characters
 abbrev pub is_id : List ℕ → Bool
 is_id s = not (is_empty s) && list_all is_id_byte s
 

@@ -1,7 +1,9 @@
 pub mod Query
 pub mod Ids
-pub mod Table
+pub mod WellFormed
+pub mod Rules
+pub mod AllBroken
 pub mod Meaning
-pub mod Broken
 pub mod Refusal
 pub mod Claims
+pub mod code

@@ -1,5 +1,6 @@
--- What a JSON value asks for as a query, where it breaks no rule (OpenID for Verifiable Presentations 1.0, section 6).
-use Rattle.std.specs.Prelude.{ℕ, ◌+◌, ◌*◌, Bool, true, false, List, [], ◌∷◌, map, length, codes, Option, Some, None, option_map, option_and_then, filter_map, Result, if◌then◌else◌}
+-- What a JSON value asks for as a query, where it breaks no rule (OpenID4VP 1.0, section 6).
+use Rattle.std.specs.Prelude.{ℕ, ◌+◌, ◌*◌, Bool, true, false, List, [], ◌∷◌, map, length, codes, Option, Some}
+use Rattle.std.specs.Prelude.{None, option_map, option_and_then, filter_map, Result, if◌then◌else◌}
 use Rattle.std.specs.Option.{option_map_or, unwrap_or}
 use Rattle.std.specs.List.{list_any, range_with_len}
 use Rattle.serde_json.specs.Data.{Data}
@@ -7,19 +8,18 @@ use Rattle.serde_json.specs.Find.{get, as_str, as_bool}
 use Rattle.base_forms.specs.Rules.{unless_broken}
 use Rattle.json_forms.specs.Look.{elements_of, is_empty, text_at, elements_at}
 use Rattle.claim_path.specs.Read.{step_of, scalars_of}
-use Rattle.dcql_query.specs.declared.query.Claim.{Claim}
 use Rattle.claim_tree.specs.declared.facts.Format.{Format}
 use Rattle.claim_tree.specs.declared.facts.Format.TheVariants.{SdJwt, Mdoc}
 use Rattle.dcql_query.specs.Ids.{is_named}
-use Rattle.dcql_query.specs.Table.{has_format, query_rule}
-use Rattle.dcql_query.specs.Query.{Credential, CredentialSet, Query}
+use Rattle.dcql_query.specs.Rules.{has_format, query_rule}
+use Rattle.dcql_query.specs.Query.{Claim, Credential, CredentialSet, Query}
 
--- the truth value at a name, or `usual` where none stands
+-- the boolean at a name, or `usual` where none stands there
 abbrev pub flag_at : List ℕ → Bool → Data → Bool
 flag_at k usual d = unwrap_or (option_and_then as_bool (get k d)) usual
 
-abbrev pub texts_of : List Data → List (List ℕ)
-texts_of ds = filter_map as_str ds
+abbrev pub strings_of : List Data → List (List ℕ)
+strings_of ds = filter_map as_str ds
 
 -- ---- claims (section 6.3)
 
@@ -65,7 +65,7 @@ format_of q =
 -- the types that `meta` allows (annex B.2.3 and B.3.5)
 abbrev pub kinds_in : Option Format → Data → Option (List (List ℕ))
 kinds_in None meta = None
-kinds_in (Some SdJwt) meta = option_map (λ k. texts_of (elements_of k)) (get (codes "vct_values") meta)
+kinds_in (Some SdJwt) meta = option_map (λ k. strings_of (elements_of k)) (get (codes "vct_values") meta)
 kinds_in (Some Mdoc) meta = option_map (λ k. k ∷ []) (text_at (codes "doctype_value") meta)
 
 abbrev pub kinds_of : Data → Option (List (List ℕ))

@@ -1,11 +1,21 @@
--- What a query in the Digital Credentials Query Language asks for (OpenID for Verifiable Presentations 1.0, section 6).
-use Rattle.std.specs.Prelude.{ℕ, ◌+◌, Bool, List, [], ◌∷◌, Option, Some, None, if◌then◌else◌}
+-- What a query in the Digital Credentials Query Language asks for (OpenID4VP 1.0, section 6).
+use Rattle.std.specs.Prelude.{ℕ, ◌+◌, Bool, true, false, List, [], ◌∷◌, Option, Some, None, unwrap_or}
+use Rattle.std.specs.Prelude.{if◌then◌else◌}
+use Rattle.std.specs.List.{list_any, slice_index_or}
+use Rattle.std.specs.Option.{option_map_or}
 use Rattle.std.specs.Str.{bytes_eq}
-use Rattle.dcql_query.specs.declared.query.Claim.{Claim}
+use Rattle.claim_path.specs.declared.path.PathStep.{PathStep}
+use Rattle.claim_path.specs.declared.path.Scalar.{Scalar}
 use Rattle.claim_tree.specs.declared.facts.Format.{Format}
 
--- A credential query (section 6.1). `format` is none where it is another than the two that are known. `kinds` are the types that
--- `meta` allows, and none where any is. A claim set is a list of places in `claims`.
+-- A claim (section 6.3): a path, and the values of which its element must have one, or none where any will
+-- do.
+pub record Claim : Type 0 where
+  pub path : List PathStep
+  pub values : Option (List Scalar)
+
+-- A credential query (section 6.1). `format` is none where it is another than the two that are known. `kinds`
+-- are the types that `meta` allows, and none where any is. A claim set is a list of places in `claims`.
 pub record Credential : Type 0 where
   pub id : List ℕ
   pub format : Option Format
@@ -20,12 +30,28 @@ pub record CredentialSet : Type 0 where
   pub options : List ℕ
   pub required : Bool
 
--- A query. `sets` is none where it has no `credential_sets`, so that every credential query is to be answered.
+-- A query. `sets` is none where it has no `credential_sets`, so that every credential query is to be
+-- answered.
 pub record Query : Type 0 where
   pub credentials : List Credential
   pub sets : Option (List CredentialSet)
+
+-- the credential sets, an empty list where it has no `credential_sets`
+abbrev pub sets_in : Query → List CredentialSet
+sets_in q = unwrap_or q.sets []
+
+abbrev pub no_options : CredentialSet
+no_options = record { options = []; required = false }
+
+-- credential set i, and one of no options past the last
+abbrev pub credential_set_at : Query → ℕ → CredentialSet
+credential_set_at q i = slice_index_or (sets_in q) i no_options
 
 -- the place of the first credential query with this id, where the first of all is at place n
 abbrev pub query_from : ℕ → List ℕ → List Credential → Option ℕ
 query_from n id [] = None
 query_from n id (q ∷ qs) = if bytes_eq id q.id then Some n else query_from (n + 1) id qs
+
+-- a credential of this type may be presented: it is one of those that are allowed, or any is
+abbrev pub allows_kind : Credential → List ℕ → Bool
+allows_kind q kind = option_map_or (list_any (bytes_eq kind)) q.kinds true

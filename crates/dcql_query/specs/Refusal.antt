@@ -3,7 +3,7 @@ use Rattle.std.specs.Prelude.{◌≡◌, ℕ, Result, Err, ⊤}
 use Rattle.dcql_query.specs.declared.error.Error.{Error}
 use Rattle.dcql_query.specs.declared.error.Error.TheVariants.{Refused, NoMemory}
 
--- The error names the least broken rule, or memory was wanting.
+-- The error names the least broken rule, or is out of memory.
 abbrev pub IsRefusal : {A : Type 0} → Result A ℕ → Error → Type 0
 IsRefusal wanted (Refused n) = wanted ≡ Err n
 IsRefusal wanted NoMemory = ⊤

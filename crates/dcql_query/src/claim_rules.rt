@@ -3,7 +3,8 @@ ghost use Rattle.std.specs.Prelude.{◌≡◌, map, codes, nat_lt, length};
 ghost use Rattle.serde_json.specs.View.{view};
 ghost use Rattle.serde_json.specs.Find.{get};
 ghost use Rattle.json_forms.specs.Look.{is_wrong};
-ghost use Rattle.dcql_query.specs.Table.{is_two_texts, are_right_values, claim_rule, least_claim_rule, is_object_list, claims_rule};
+ghost use Rattle.dcql_query.specs.Rules.{is_two_strings, are_right_values, claim_rule, least_claim_rule};
+ghost use Rattle.dcql_query.specs.Rules.{is_object_list, claims_rule};
 
 use crate::credential_rules::has_format;
 use crate::ids::{are_right_ids, has_equal_ids};
@@ -75,7 +76,7 @@ fn claim_rule(claim: &Value, document: bool) -> Option<u8>
     if path_rule(path).is_some() {
         return Some(14);
     }
-    if document && !is_two_texts(path) {
+    if document && !is_two_strings(path) {
         return Some(15);
     }
     if has_wrong_values(claim) {
@@ -84,8 +85,8 @@ fn claim_rule(claim: &Value, document: bool) -> Option<u8>
     None
 }
 
-fn is_two_texts(path: &Value) -> bool
-    ensures { result ≡ is_two_texts (view path.now) }
+fn is_two_strings(path: &Value) -> bool
+    ensures { result ≡ is_two_strings (view path.now) }
 {
     let steps = elements(path);
     steps.len() == 2 && are_texts(steps)

@@ -6,8 +6,8 @@ use crate::query::{Claim, CredentialQuery};
 use claim_path::has_hit;
 use claim_tree::ClaimView;
 
-/// Whether every claim of claim set `set` has hits in the tree that `view` shows. The format, the types and the binding
-/// that the query asks for are not looked at. No memory is taken.
+/// Whether every claim of claim set `set` has hits in the tree that `view` shows. It does not look at the
+/// format, the types and the binding that the query asks for, and takes no memory.
 pub fn claims_met<'a, V: ClaimView<'a>>(query: &CredentialQuery, set: usize, view: V) -> bool
     requires { set < length query.now.sets }
     ensures { result ≡ claims_met query.now set (V.tree view) }

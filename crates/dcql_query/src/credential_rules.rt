@@ -3,10 +3,11 @@ ghost use Rattle.std.specs.Prelude.{◌≡◌, map, codes, nat_lt, length};
 ghost use Rattle.serde_json.specs.View.{view};
 ghost use Rattle.serde_json.specs.Find.{get};
 ghost use Rattle.json_forms.specs.Look.{is_wrong};
-ghost use Rattle.dcql_query.specs.Table.{has_format, is_wrong_kind, is_meta, header_rule, is_set_list, sets_rule, credential_rule};
+ghost use Rattle.dcql_query.specs.Rules.{has_format, is_wrong_kind, is_meta, header_rule, is_set_list};
+ghost use Rattle.dcql_query.specs.Rules.{sets_rule, credential_rule};
 
 use crate::claim_rules::claims_rule;
-use crate::flags::is_no_bool;
+use crate::flags::is_no_boolean;
 use crate::ids::{all_have_ids, knows_all_lists};
 use json_forms::{are_text_lists, elements, elements_at, is_text_list, text_at};
 use serde_json::Value;
@@ -27,7 +28,7 @@ pub(crate) fn credential_rule(query: &Value) -> Option<u8>
     sets_rule(query)
 }
 
-// Of all but its claims and claim sets.
+// The least rule that it breaks in all but its claims and claim sets.
 #[tactic(auto, unfolding(base_forms::specs::Rules::rule))]
 fn header_rule(query: &Value) -> Option<u8>
     ensures { result ≡ header_rule (view query.now) }
@@ -35,10 +36,10 @@ fn header_rule(query: &Value) -> Option<u8>
     if text_at(query, "format").is_none() {
         return Some(5);
     }
-    if is_no_bool(query.get("multiple")) {
+    if is_no_boolean(query.get("multiple")) {
         return Some(6);
     }
-    if is_no_bool(query.get("require_cryptographic_holder_binding")) {
+    if is_no_boolean(query.get("require_cryptographic_holder_binding")) {
         return Some(7);
     }
     if query.get("trusted_authorities").is_some() {
@@ -59,7 +60,7 @@ fn has_wrong_meta(query: &Value) -> bool
     }
 }
 
-// Whether the types that `meta` allows are there and not of the form that the format has.
+// Whether the member of `meta` that names types, by the format, is there and of another form.
 fn has_wrong_kind(query: &Value, meta: &Value) -> bool
     ensures { result ≡ is_wrong_kind (view query.now) (view meta.now) }
 {
@@ -87,7 +88,7 @@ pub(crate) fn has_format(query: &Value, name: &str) -> bool
     }
 }
 
-// Of its claim sets.
+// The least rule that its claim sets break.
 #[tactic(auto, unfolding(base_forms::specs::Rules::rule))]
 fn sets_rule(query: &Value) -> Option<u8>
     ensures { result ≡ sets_rule (view query.now) }

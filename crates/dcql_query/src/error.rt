@@ -1,7 +1,7 @@
-// What the calls of this crate answer where they do not succeed.
+// Why the calls of this crate fail.
 use std::alloc::{AllocError, AllocFailed};
 
-/// Memory was wanting. Nothing else makes a call answer this.
+/// Out of memory.
 #[derive(Clone, Copy, PartialEq, Eq, Debug, Drop)]
 pub struct NoMemory;
 
@@ -34,7 +34,7 @@ impl From<claim_path::NoMemory> for NoMemory {
 pub enum Error {
     /// The least rule that is broken, from 1 to 22.
     Refused(u8),
-    /// Memory was wanting. It may come in place of any other answer.
+    /// Out of memory, which may come in place of any other answer.
     NoMemory,
 }
 

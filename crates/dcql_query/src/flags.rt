@@ -1,15 +1,15 @@
-// Truth values that may be absent.
+// Booleans that may be absent.
 ghost use Rattle.std.specs.Prelude.{◌≡◌, option_map};
 ghost use Rattle.serde_json.specs.View.{view};
 ghost use Rattle.json_forms.specs.Look.{is_wrong};
 ghost use Rattle.dcql_query.specs.Meaning.{flag_at};
-ghost use Rattle.dcql_query.specs.Table.{is_bool};
+ghost use Rattle.dcql_query.specs.Rules.{is_boolean};
 
 use serde_json::Value;
 
-// Whether it is there and no truth value.
-pub(crate) fn is_no_bool(value: Option<&Value>) -> bool
-    ensures { result ≡ is_wrong is_bool (option_map (λ v. view v.now) value.entry) }
+// Whether a value is there and no boolean.
+pub(crate) fn is_no_boolean(value: Option<&Value>) -> bool
+    ensures { result ≡ is_wrong is_boolean (option_map (λ v. view v.now) value.entry) }
 {
     match value {
         Some(value) => !value.is_boolean(),
@@ -17,7 +17,7 @@ pub(crate) fn is_no_bool(value: Option<&Value>) -> bool
     }
 }
 
-// The truth value at a name, or `usual` where none is there.
+// The boolean at a name, or `usual` where none stands there.
 pub(crate) fn flag_at(value: &Value, name: &str, usual: bool) -> bool
     ensures { result ≡ flag_at name.now usual (view value.now) }
 {

@@ -5,21 +5,18 @@ ghost use Rattle.std.specs.Option.{option_map_or};
 ghost use Rattle.serde_json.specs.View.{view};
 ghost use Rattle.serde_json.specs.Find.{get, as_str};
 ghost use Rattle.json_forms.specs.Look.{is_wrong};
-ghost use Rattle.dcql_query.specs.Ids.{is_id_byte, is_id, is_id_text, has_id, all_have_right_ids, are_right_ids, all_have_ids, is_named, is_known, has_equal_ids, knows_all, knows_all_lists};
+ghost use Rattle.dcql_query.specs.Ids.{is_id_byte, is_id, is_id_text, has_id, all_have_right_ids};
+ghost use Rattle.dcql_query.specs.Ids.{are_right_ids, all_have_ids, is_named, is_known, has_equal_ids};
+ghost use Rattle.dcql_query.specs.Ids.{knows_all, knows_all_lists};
 
 use json_forms::{elements, text_at};
 use serde_json::Value;
 
-// Whether each has an id of the right form.
+// Whether each value has an id of the right form.
 pub(crate) fn all_have_right_ids(values: &[Value]) -> bool
     ensures { result ≡ all_have_right_ids (map view values.now) }
 {
-    for value in values {
-        if !has_id(value) {
-            return false;
-        }
-    }
-    true
+    values.iter().all(|value| has_id(value))
 }
 
 fn has_id(value: &Value) -> bool
@@ -35,12 +32,7 @@ fn has_id(value: &Value) -> bool
 pub(crate) fn are_right_ids(values: &[Value]) -> bool
     ensures { result ≡ are_right_ids (map view values.now) }
 {
-    for value in values {
-        if has_wrong_id(value) {
-            return false;
-        }
-    }
-    true
+    values.iter().all(|value| !has_wrong_id(value))
 }
 
 fn has_wrong_id(value: &Value) -> bool
@@ -52,43 +44,34 @@ fn has_wrong_id(value: &Value) -> bool
     }
 }
 
-// Whether each has an id of any form.
+// Whether each value has an `id`, whatever it is.
 pub(crate) fn all_have_ids(values: &[Value]) -> bool
     ensures { result ≡ all_have_ids (map view values.now) }
 {
-    for value in values {
-        if value.get("id").is_none() {
-            return false;
-        }
-    }
-    true
+    values.iter().all(|value| value.get("id").is_some())
 }
 
 fn is_id_text(value: &Value) -> bool
     ensures { result ≡ is_id_text (view value.now) }
 {
     match value.as_str() {
-        Some(text) => is_id(text),
+        Some(string) => is_id(string),
         None => false,
     }
 }
 
-fn is_id(text: &str) -> bool
-    ensures { result ≡ is_id text.now }
+/// Whether a string has the form of an id: one or more ASCII letters, ASCII digits, `_` and `-`.
+pub fn is_id(string: &str) -> bool
+    ensures { result ≡ is_id string.now }
 {
-    let bytes = text.as_bytes();
+    let bytes = string.as_bytes();
     !bytes.is_empty() && are_id_bytes(bytes)
 }
 
 fn are_id_bytes(bytes: &[u8]) -> bool
     ensures { result ≡ list_all is_id_byte bytes.now }
 {
-    for byte in bytes {
-        if !is_id_byte(*byte) {
-            return false;
-        }
-    }
-    true
+    bytes.iter().all(|byte| is_id_byte(*byte))
 }
 
 fn is_id_byte(byte: u8) -> bool
@@ -97,7 +80,7 @@ fn is_id_byte(byte: u8) -> bool
     matches!(byte, b'A'..=b'Z' | b'a'..=b'z' | b'0'..=b'9' | b'_' | b'-')
 }
 
-// Whether two have the same id.
+// Whether two values have the same id.
 pub(crate) fn has_equal_ids(values: &[Value]) -> bool
     ensures { result ≡ has_equal_ids (map view values.now) }
 {
@@ -112,16 +95,11 @@ pub(crate) fn has_equal_ids(values: &[Value]) -> bool
     has_equal_ids(rest)
 }
 
-// Whether one of them has this id.
+// Whether one of the values has this id.
 fn is_known(values: &[Value], id: &str) -> bool
     ensures { result ≡ is_known (map view values.now) id.now }
 {
-    for value in values {
-        if is_named(value, id) {
-            return true;
-        }
-    }
-    false
+    values.iter().any(|value| is_named(value, id))
 }
 
 pub(crate) fn is_named(value: &Value, id: &str) -> bool
@@ -133,27 +111,17 @@ pub(crate) fn is_named(value: &Value, id: &str) -> bool
     }
 }
 
-// Whether each name in each list is the id of one of them.
+// Whether each name in each list is the id of one of the values.
 pub(crate) fn knows_all_lists(values: &[Value], lists: &[Value]) -> bool
     ensures { result ≡ knows_all_lists (map view values.now) (map view lists.now) }
 {
-    for list in lists {
-        if !knows_all(values, elements(list)) {
-            return false;
-        }
-    }
-    true
+    lists.iter().all(|list| knows_all(values, elements(list)))
 }
 
 fn knows_all(values: &[Value], names: &[Value]) -> bool
     ensures { result ≡ knows_all (map view values.now) (map view names.now) }
 {
-    for name in names {
-        if !knows(values, name) {
-            return false;
-        }
-    }
-    true
+    names.iter().all(|name| knows(values, name))
 }
 
 fn knows(values: &[Value], name: &Value) -> bool

@@ -1,10 +1,10 @@
 // The rules of a whole query, and the least that is broken.
 ghost use Rattle.std.specs.Prelude.{◌≡◌, map, nat_lt, length};
 ghost use Rattle.serde_json.specs.View.{view};
-ghost use Rattle.dcql_query.specs.Table.{least_credential_rule, query_rule};
+ghost use Rattle.dcql_query.specs.Rules.{least_credential_rule, query_rule};
 
 use crate::credential_rules::credential_rule;
-use crate::credential_sets::{has_wrong_credential_sets, knows_all_options};
+use crate::credential_set_rules::{has_wrong_credential_sets, knows_all_options};
 use crate::ids::{all_have_right_ids, has_equal_ids};
 use base_forms::lesser;
 use json_forms::elements_at;
