@@ -1,18 +1,16 @@
--- What a credential in memory says.
-use Rattle.std.specs.Prelude.{string_bytes}
-use Rattle.jws_envelope.specs.Jws.{envelope}
-use Rattle.sdjwt_view.specs.Reading.{Credential}
-use Rattle.claim_tree.specs.Owned.{tree_of}
+-- What a credential in memory says: its text, the content of that text, and the credential among it (RFC
+-- 9901, section 7.1; SD-JWT VC, section 3.2).
+use Rattle.claim_tree.specs.Credential.{Credential}
+use Rattle.base_forms.specs.Texts.{Utf8}
+use Rattle.sdjwt_view.specs.Reading.{Content}
+use Rattle.sdjwt_view.specs.code.Content.{content_in_memory}
 use Rattle.sdjwt_view.specs.declared.credential.SdCredential.{SdCredential}
 
+abbrev pub text_of : SdCredential → Utf8
+text_of c = c.text.now
+
+abbrev pub content_of : SdCredential → Content
+content_of c = content_in_memory c.content
+
 abbrev pub meaning : SdCredential → Credential
-meaning c = record {
-  jws = envelope c.jws;
-  hash = c.hash;
-  tree = tree_of c.root;
-  kind = string_bytes c.kind;
-  issuer = c.issuer;
-  holder = c.holder;
-  first = c.first;
-  past = c.past;
-}
+meaning c = (content_of c).credential

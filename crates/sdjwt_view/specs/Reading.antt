@@ -1,6 +1,7 @@
--- Reading an SD-JWT without key binding (RFC 9901, sections 4 and 7.1) as a credential (SD-JWT VC, sections 3.1 and 3.2): what a text says,
--- and the first rule that it breaks.
-use Rattle.std.specs.Prelude.{ℕ, Bool, false, ◌||◌, ◌==◌, not, nat_lt, List, [], ◌∷◌, length, codes, Option, Some, None, option_map, option_and_then, unwrap_or, is_none}
+-- Reading an SD-JWT without key binding (RFC 9901, sections 4 and 7.1) as a credential (SD-JWT VC, sections
+-- 3.1 and 3.2): what a text says, and the first rule that it breaks.
+use Rattle.std.specs.Prelude.{ℕ, Bool, false, ◌||◌, ◌==◌, not, nat_lt, List, [], ◌∷◌, length, codes, Option}
+use Rattle.std.specs.Prelude.{Some, None, option_map, option_and_then, unwrap_or, is_none}
 use Rattle.std.specs.List.{slice_split}
 use Rattle.std.specs.Option.{option_map_or}
 use Rattle.std.specs.Str.{bytes_eq}
@@ -13,12 +14,15 @@ use Rattle.base_forms.specs.declared.hash.HashName.TheVariants.{Sha256}
 use Rattle.json_forms.specs.Look.{text_at}
 use Rattle.jws_envelope.specs.Compact.{dot_parts}
 use Rattle.jws_envelope.specs.Envelope.{Envelope, envelope_of, jws_rule, issuer_of}
-use Rattle.claim_tree.specs.Tree.{Tree, RecordOf}
+use Rattle.jws_envelope.specs.Seal.{jws_seal}
+use Rattle.claim_tree.specs.Tree.{RecordOf}
+use Rattle.claim_tree.specs.Credential.{Credential}
+use Rattle.claim_tree.specs.declared.facts.Format.TheVariants.{SdJwt}
 use Rattle.base_forms.specs.Texts.{Utf8}
-use Rattle.sdjwt_view.specs.Disclosures.{Disclosed, all_disclosed}
+use Rattle.sdjwt_disclosures.specs.Disclosures.{Disclosed, all_disclosed}
 use Rattle.claim_tree.specs.Parts.{Named, members_of}
-use Rattle.sdjwt_view.specs.Spelling.{sd_alg, spelled_payload}
-use Rattle.sdjwt_view.specs.Placing.{placing_rule}
+use Rattle.sdjwt_disclosures.specs.DisclosedTree.{sd_alg, spelled_payload}
+use Rattle.sdjwt_disclosures.specs.DisclosureRules.{processing_rule}
 use Rattle.sdjwt_view.specs.Facts.{facts_rule, kind_of, holder_of, first_of, past_of}
 
 -- ---- the text: the issuer's JWS and each disclosure, each followed by `~`
@@ -48,7 +52,8 @@ has_sd_type header = option_map_or is_sd_type (text_at (codes "typ") header) fal
 
 -- the hash that `_sd_alg` names, SHA-256 where there is none (RFC 9901, section 4.1.1)
 abbrev pub named_hash : Data → Option HashName
-named_hash payload = option_map_or (λ d. option_and_then hash_named (as_str d)) (get sd_alg payload) (Some Sha256)
+named_hash payload =
+    option_map_or (λ d. option_and_then hash_named (as_str d)) (get sd_alg payload) (Some Sha256)
 
 abbrev pub hash_of : Data → HashName
 hash_of payload = unwrap_or (named_hash payload) Sha256
@@ -61,24 +66,24 @@ most_disclosures = 1_024
 abbrev pub disclosures_of : Envelope → List Utf8 → List Disclosed
 disclosures_of e texts = unwrap_or (all_disclosed (hash_of e.payload) texts) []
 
--- rules 3 to 6
-unfoldable pub front_rule : Envelope → List Utf8 → Option ℕ
-front_rule e texts = first
+-- rules 3 to 6: the type in the header; the hash; the number of disclosures; their form
+unfoldable pub forms_rule : Envelope → List Utf8 → Option ℕ
+forms_rule e texts = first
     (rule 3 (not (has_sd_type e.header))
     ∷ rule 4 (is_none (named_hash e.payload))
     ∷ rule 5 (nat_lt most_disclosures (length texts))
     ∷ rule 6 (is_none (all_disclosed (hash_of e.payload) texts))
     ∷ [])
 
--- rules 7 to 17
+-- rules 7 to 17, on what the disclosures say and on the payload
 abbrev pub later_rule : Data → List Disclosed → Option ℕ
-later_rule payload ls = first (placing_rule payload ls ∷ facts_rule payload ∷ [])
+later_rule payload ls = first (processing_rule payload ls ∷ facts_rule payload ∷ [])
 
--- rules 3 to 17
+-- rules 3 to 17, past those of the issuer's JWS
 abbrev pub inner_rule : Envelope → List Utf8 → Option ℕ
-inner_rule e texts = first (front_rule e texts ∷ later_rule e.payload (disclosures_of e texts) ∷ [])
+inner_rule e texts = first (forms_rule e texts ∷ later_rule e.payload (disclosures_of e texts) ∷ [])
 
--- by a rule of SD-JWT, or by one of its issuer's JWS
+-- the number of a rule of SD-JWT, or that of a rule of its issuer's JWS
 pub data Refusal : Type 0 where
   refused : ℕ → Refusal
   envelope : ℕ → Refusal
@@ -90,7 +95,8 @@ either_rule None None = None
 
 abbrev pub refusal_of_parts : Option (Utf8 × List Utf8) → Option Refusal
 refusal_of_parts None = Some (refused 1)
-refusal_of_parts (Some (jws, texts)) = either_rule (jws_rule jws) (inner_rule (envelope_of (dot_parts jws)) texts)
+refusal_of_parts (Some (jws, texts)) =
+    either_rule (jws_rule jws) (inner_rule (envelope_of (dot_parts jws)) texts)
 
 -- the first rule that a text breaks: 1 it does not end in `~`, 2 its JWS is refused, then 3 to 17
 unfoldable pub refusal_of : Utf8 → Option Refusal
@@ -98,28 +104,28 @@ refusal_of text = refusal_of_parts (parts_of (pieces text))
 
 -- ---- the meaning
 
--- What a credential says. Its tree has each disclosure in its place, held.
-pub record Credential : Type 0 where
+-- What an SD-JWT says: its issuer's message, the hash of its digests, and the credential.
+pub record Content : Type 0 where
   pub jws : Envelope
   pub hash : HashName
-  pub tree : Tree
-  pub kind : Utf8
-  pub issuer : Utf8
-  pub holder : Option Utf8
-  pub first : ℕ
-  pub past : Option ℕ
+  pub credential : Credential
 
--- what a JWS says under this hash and with these members of its tree
-abbrev pub credential_with : Envelope → HashName → List Named → Credential
-credential_with e hash members = record {
+-- What a JWS says under this hash and with these members of its tree. Each disclosure stands in the tree,
+-- held.
+abbrev pub content_with : Envelope → HashName → List Named → Content
+content_with e hash members = record {
   jws = e;
   hash = hash;
-  tree = RecordOf (members_of members);
-  kind = kind_of e.payload;
-  issuer = issuer_of e;
-  holder = holder_of e.payload;
-  first = first_of e.payload;
-  past = past_of e.payload;
+  credential = record {
+    format = SdJwt;
+    kind = kind_of e.payload;
+    issuer = issuer_of e;
+    holder = holder_of e.payload;
+    first = first_of e.payload;
+    past = past_of e.payload;
+    tree = RecordOf (members_of members);
+    seal = jws_seal e;
+  };
 }
 
 -- the members that its payload spells with these disclosures
@@ -127,9 +133,13 @@ abbrev pub members_with : Data → List Disclosed → List Named
 members_with payload ls = unwrap_or (spelled_payload ls payload) []
 
 -- what a JWS with the disclosures of these texts says
-abbrev pub credential_of : Envelope → List Utf8 → Credential
-credential_of e texts = credential_with e (hash_of e.payload) (members_with e.payload (disclosures_of e texts))
+abbrev pub content_from : Envelope → List Utf8 → Content
+content_from e texts = content_with e (hash_of e.payload) (members_with e.payload (disclosures_of e texts))
 
 -- what a text says, where it breaks no rule
+unfoldable pub content_in : Utf8 → Option Content
+content_in text = option_map (λ p. content_from (envelope_of (dot_parts p.0)) p.1) (parts_of (pieces text))
+
+-- the credential in what it says
 unfoldable pub credential_in : Utf8 → Option Credential
-credential_in text = option_map (λ p. credential_of (envelope_of (dot_parts p.0)) p.1) (parts_of (pieces text))
+credential_in text = option_map (λ c. c.credential) (content_in text)

@@ -1,123 +1,42 @@
--- What it is for a text to be a credential, in the standard's own terms: the claim tree that a JSON value spells, case by case, and the disclosures
--- that it uses (RFC 9901, sections 4.2, 7.1 and 7.3).
-use Rattle.std.specs.Prelude.{◌≡◌, ◌≤◌, ℕ, zero, suc, ◌+◌, Bool, true, false, List, [], ◌∷◌, ◌++◌, length, map, Some, None, if◌then◌else◌}
-use Rattle.std.specs.List.{AllByRecursion, list_any, list_all}
-use Rattle.std.specs.Str.{bytes_eq}
-use Rattle.serde_json.specs.Data.{Data, null, boolean, number, string, array, object, Items, no_items, item, Members as Fields, no_members as no_fields, member as field}
-use Rattle.serde_json.specs.Find.{as_object}
+-- What it is for a text to be a credential, in the standard's terms: what a signed message says together with
+-- disclosures (RFC 9901, sections 4, 7.1 and 7.3).
+use Rattle.std.specs.Prelude.{◌≡◌, ◌≤◌, true, false, List, length, map, Some, None}
+use Rattle.std.specs.List.{list_any, list_all}
 use Rattle.base_forms.specs.declared.hash.HashName.{HashName}
+use Rattle.base_forms.specs.Texts.{Utf8, differ}
 use Rattle.jws_envelope.specs.Compact.{dot_parts}
 use Rattle.jws_envelope.specs.Envelope.{Envelope, envelope_of, jws_rule}
-use Rattle.claim_tree.specs.Tree.{Tree, Text, Truth, Null, ListOf, RecordOf}
-use Rattle.claim_tree.specs.Plain.{plain_number}
-use Rattle.claim_tree.specs.Parts.{Part, Named, elements_of, members_of, put_member}
-use Rattle.base_forms.specs.Texts.{Utf8, is_among, differ}
-use Rattle.sdjwt_view.specs.Disclosures.{Disclosed, all_disclosed, found}
-use Rattle.sdjwt_view.specs.Places.{placeholder, own_digests, gets_clash, digest_at, all_places, is_sound}
-use Rattle.sdjwt_view.specs.Placing.{names_mark, reserved}
-use Rattle.sdjwt_view.specs.Spelling.{has_placeholder, left_out}
-use Rattle.sdjwt_view.specs.Reading.{Credential, pieces, parts_of, has_sd_type, named_hash, most_disclosures, credential_with}
+use Rattle.claim_tree.specs.Parts.{Named}
+use Rattle.sdjwt_disclosures.specs.Disclosures.{Disclosed, all_disclosed}
+use Rattle.sdjwt_disclosures.specs.DigestSites.{digest_at, all_sites}
+use Rattle.sdjwt_disclosures.specs.ReservedNames.{is_sound, has_reserved_name}
+use Rattle.sdjwt_disclosures.specs.Spelling.{SpellsPayload, UsesEach}
+use Rattle.sdjwt_view.specs.Reading.{Content, pieces, parts_of, has_sd_type, named_hash, most_disclosures}
+use Rattle.sdjwt_view.specs.Reading.{content_with}
 use Rattle.sdjwt_view.specs.Facts.{facts_rule}
 
--- ---- what a value spells
-
--- Which value spells which tree, and uses the disclosures of these digests, each as often as its digest is met, in the order of the walk.
-abbrev pub Way : Type 1
-Way = Data → Tree → List Utf8 → Type 0
-
--- The elements of a list in order (sections 4.2.4.2 and 7.1, step 3): a plain one is not held. A placeholder with the digest of a disclosure without a
--- name gives an element that is held and spelled by the disclosure's value. One whose digest no disclosure has gives nothing. For the digest of a
--- disclosure with a name there is no case.
-pub data SpellElements (Inner : Way) (ls : List Disclosed) : Items → List Part → List Utf8 → Type 0 where
-  no_more : SpellElements Inner ls no_items [] []
-  plain : {d : Data} {ds : Items} {t : Tree} {es : List Part} {us vs : List Utf8} → placeholder d ≡ None → Inner d t us → SpellElements Inner ls ds es vs → SpellElements Inner ls (item d ds) ((false, t) ∷ es) (us ++ vs)
-  disclosed : {d : Data} {ds : Items} {x : Utf8} {l : Disclosed} {t : Tree} {es : List Part} {us vs : List Utf8} → placeholder d ≡ Some x → found x ls ≡ Some l → l.name ≡ None → Inner l.value t us → SpellElements Inner ls ds es vs
-      → SpellElements Inner ls (item d ds) ((true, t) ∷ es) (x ∷ us ++ vs)
-  undisclosed : {d : Data} {ds : Items} {x : Utf8} {es : List Part} {vs : List Utf8} → placeholder d ≡ Some x → found x ls ≡ None → SpellElements Inner ls ds es vs → SpellElements Inner ls (item d ds) es vs
-
--- The members of an object as they stand, not held: each but `_sd` and, in the payload, `_sd_alg` (section 7.1, step 3).
-pub data SpellPlain (Inner : Way) (left : List Utf8) : Fields → List Named → List Utf8 → Type 0 where
-  no_more : SpellPlain Inner left no_fields [] []
-  no_claim : {k : Utf8} {d : Data} {ms : Fields} {ns : List Named} {us : List Utf8} → is_among k left ≡ true → SpellPlain Inner left ms ns us → SpellPlain Inner left (field k d ms) ns us
-  plain : {k : Utf8} {d : Data} {ms : Fields} {t : Tree} {ns : List Named} {us vs : List Utf8} → is_among k left ≡ false → Inner d t us → SpellPlain Inner left ms ns vs → SpellPlain Inner left (field k d ms) ((k, false, t) ∷ ns) (us ++ vs)
-
--- The members that an object gets by the digests of its `_sd` (sections 4.2.4.1 and 7.1, step 3): each digest of a disclosure with a name gives a member of that name, held and spelled
--- by the disclosure's value. One that no disclosure has gives nothing. For the digest of a disclosure without a name there is no case.
-pub data SpellHeld (Inner : Way) (ls : List Disclosed) : List Utf8 → List Named → List Utf8 → Type 0 where
-  no_more : SpellHeld Inner ls [] [] []
-  disclosed : {x : Utf8} {xs : List Utf8} {l : Disclosed} {k : Utf8} {t : Tree} {ns : List Named} {us vs : List Utf8} → found x ls ≡ Some l → l.name ≡ Some k → Inner l.value t us → SpellHeld Inner ls xs ns vs
-      → SpellHeld Inner ls (x ∷ xs) ((k, true, t) ∷ ns) (x ∷ us ++ vs)
-  undisclosed : {x : Utf8} {xs : List Utf8} {ns : List Named} {vs : List Utf8} → found x ls ≡ None → SpellHeld Inner ls xs ns vs → SpellHeld Inner ls (x ∷ xs) ns vs
-
--- plain members and others, each in its place by its name
-abbrev pub put_members : List Named → List Named → List Named
-put_members [] ns = ns
-put_members (h ∷ hs) ns = put_members hs (put_member h ns)
-
--- The members of an object: its plain ones and those that come by its digests. The names of the latter differ from each other and from that of each
--- member.
-pub record SpellMembers (is_payload : Bool) (Inner : Way) (ls : List Disclosed) (ms : Fields) (ns : List Named) (us : List Utf8) : Type 0 where
-  pub plain : List Named
-  pub held : List Named
-  pub plain_uses : List Utf8
-  pub held_uses : List Utf8
-  pub spells_plain : SpellPlain Inner (left_out is_payload) ms plain plain_uses
-  pub spells_held : SpellHeld Inner ls (own_digests ms) held held_uses
-  pub names_differ : gets_clash (map (λ n. n.0) held) ms ≡ false
-  pub are_members : ns ≡ put_members held plain
-  pub are_uses : us ≡ plain_uses ++ held_uses
-
--- A value with at most n lists and records inside one another. A text, a number, a truth value and null spell the like tree. A list is loose
--- exactly where it has a placeholder.
-abbrev pub Spells : ℕ → List Disclosed → Way
-Spells n ls null t us = (t ≡ Null) × (us ≡ [])
-Spells n ls (boolean b) t us = (t ≡ Truth b) × (us ≡ [])
-Spells n ls (number x) t us = (t ≡ plain_number x) × (us ≡ [])
-Spells n ls (string s) t us = (t ≡ Text s) × (us ≡ [])
-Spells zero ls (array ds) t us = ⊥
-Spells zero ls (object ms) t us = ⊥
-Spells (suc n) ls (array ds) t us = (es : List Part) × SpellElements (Spells n ls) ls ds es us × (t ≡ ListOf (has_placeholder ds) (elements_of es))
-Spells (suc n) ls (object ms) t us = (ns : List Named) × SpellMembers false (Spells n ls) ls ms ns us × (t ≡ RecordOf (members_of ns))
-
--- The payload is an object with at most 64 lists and records inside one another, itself among them. No member that comes by a digest has a name that
--- is kept for what the issuer says in plain.
-pub record SpellsPayload (ls : List Disclosed) (payload : Data) (ns : List Named) (us : List Utf8) : Type 0 where
-  pub fields : Fields
-  pub is_object : as_object payload ≡ Some fields
-  pub spells : SpellMembers true (Spells 63 ls) ls fields ns us
-  pub none_reserved : list_any (λ k. is_among k reserved) (map (λ n. n.0) spells.held) ≡ false
-
--- ---- what a text says
-
--- how often a text stands among some
-abbrev pub times : Utf8 → List Utf8 → ℕ
-times x [] = 0
-times x (u ∷ us) = (if bytes_eq u x then 1 else 0) + times x us
-
--- no two disclosures have one digest, and each is used once (section 7.1, step 5)
-abbrev pub UsesEach : List Disclosed → List Utf8 → Type 0
-UsesEach ls us = (differ (map (λ l. l.digest) ls) ≡ true) × AllByRecursion (λ l. times l.digest us ≡ 1) ls
-
--- A signed message and the texts of disclosures: the payload spells the record of these members and uses each disclosure in exactly one place. No digest
--- stands in two places (section 7.1, step 4). The rules on types, forms and limits hold, and those on what the message says of itself.
-pub record Says (e : Envelope) (texts : List Utf8) (c : Credential) : Type 0 where
+-- A signed message and the texts of disclosures: the payload spells the record of these members and uses each
+-- disclosure at exactly one site. No digest stands at two sites (section 7.1, step 4). The rules on types,
+-- forms and limits hold, and those on what the message says of itself.
+pub record Says (e : Envelope) (texts : List Utf8) (c : Content) : Type 0 where
   pub is_typed : has_sd_type e.header ≡ true
   pub hash : HashName
   pub names_hash : named_hash e.payload ≡ Some hash
   pub few : length texts ≤ most_disclosures
   pub disclosures : List Disclosed
   pub are_disclosed : all_disclosed hash texts ≡ Some disclosures
-  pub no_mark : list_any names_mark disclosures ≡ false
+  pub none_reserved : list_any has_reserved_name disclosures ≡ false
   pub sound : is_sound e.payload ≡ true
   pub sound_values : list_all (λ l. is_sound l.value) disclosures ≡ true
-  pub apart : differ (map digest_at (all_places e.payload disclosures)) ≡ true
+  pub apart : differ (map digest_at (all_sites e.payload disclosures)) ≡ true
   pub members : List Named
   pub used : List Utf8
   pub spells : SpellsPayload disclosures e.payload members used
   pub uses_each : UsesEach disclosures used
   pub facts : facts_rule e.payload ≡ None
-  pub says : c ≡ credential_with e hash members
+  pub says : c ≡ content_with e hash members
 
 -- The text is an issuer's JWS and disclosures, each followed by `~`, and this is what they say.
-abbrev pub Reads : Utf8 → Credential → Type 0
-Reads text c = (jws : Utf8) × (texts : List Utf8) × (parts_of (pieces text) ≡ Some (jws, texts)) × (jws_rule jws ≡ None) × Says (envelope_of (dot_parts jws)) texts c
+abbrev pub Reads : Utf8 → Content → Type 0
+Reads text c = (jws : Utf8) × (texts : List Utf8) × (parts_of (pieces text) ≡ Some (jws, texts))
+    × (jws_rule jws ≡ None) × Says (envelope_of (dot_parts jws)) texts c

@@ -1,10 +1,10 @@
-// Why no credential is read.
+// The errors of this crate.
 ghost use Rattle.std.specs.Prelude.{◌≡◌};
-ghost use Rattle.sdjwt_view.specs.EnvelopeError.{of_envelope};
+ghost use Rattle.sdjwt_view.specs.code.EnvelopeError.{of_envelope};
 
 use std::alloc::{AllocError, AllocFailed};
 
-/// Memory was wanting.
+/// Out of memory.
 #[derive(Clone, Copy, PartialEq, Eq, Debug)]
 pub struct NoMemory;
 
@@ -15,7 +15,7 @@ pub enum Error {
     Refused(u8),
     /// The issuer's JWS is refused, by the rule of this number.
     Envelope(u8),
-    /// Memory was wanting.
+    /// Out of memory. It may come in place of any other answer.
     NoMemory,
 }
 
@@ -41,7 +41,7 @@ impl<T: Drop> From<AllocFailed<T>> for Error {
     }
 }
 
-/// What a refusal of the issuer's JWS is to a credential.
+/// The error for a refused JWS of the issuer.
 pub(crate) fn envelope_error(error: jws_envelope::Error) -> Error
     ensures { result ≡ of_envelope error }
 {

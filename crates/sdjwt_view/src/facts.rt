@@ -1,14 +1,15 @@
-// What an SD-JWT VC says of itself.
-ghost use Rattle.std.specs.Prelude.{◌≡◌, ◌++◌, true, false, None, IfOk, IfErr, codes, is_some, option_map, string_bytes};
+// The facts of an SD-JWT VC: type, dates and holder.
+ghost use Rattle.std.specs.Prelude.{◌≡◌, ◌++◌, true, false, None, IfOk, IfErr, codes, is_some, option_map};
+ghost use Rattle.std.specs.Prelude.{string_bytes};
 ghost use Rattle.serde_json.specs.View.{view};
-ghost use Rattle.serde_json.specs.Written.{has_float};
 ghost use Rattle.serde_json.specs.Find.{get};
 ghost use Rattle.json_forms.specs.Look.{is_wrong};
-ghost use Rattle.sdjwt_view.specs.Facts.{moment_of, is_moment, moment_at, is_key, is_holder, facts_rule, jwk_name, holder_of, kind_of, first_of, past_of};
+ghost use Rattle.sdjwt_view.specs.Facts.{moment_of, is_moment, moment_at, is_key, is_holder, facts_rule};
+ghost use Rattle.sdjwt_view.specs.Facts.{holder_of, kind_of, first_of, past_of};
 
-use crate::floats::has_float;
 use claim_tree::KeyName;
-use json_forms::text_at;
+use json_forms::{has_float, text_at};
+use jws_envelope::key_names::jwk_name;
 use serde_json::Value;
 use std::alloc::{AllocError, Global};
 
@@ -35,21 +36,21 @@ pub fn kind_of(payload: &Value) -> &str
     text_at(payload, "vct").unwrap_or("")
 }
 
-/// The second from which it is valid.
+/// The second from which on it is valid, 0 where it names none.
 pub fn first_of(payload: &Value) -> u64
     ensures { result ≡ first_of (view payload.now) }
 {
     moment_at(payload, "nbf").unwrap_or(0)
 }
 
-/// The second at which it expires.
+/// The first second after its validity, if it names one.
 pub fn past_of(payload: &Value) -> Option<u64>
     ensures { result ≡ past_of (view payload.now) }
 {
     moment_at(payload, "exp")
 }
 
-/// The name of the key that it is bound to.
+/// The name of the key that it is bound to, if it is bound to one.
 pub fn holder_of(alloc: Global, payload: &Value) -> Result<Option<KeyName>, AllocError>
     requires { facts_rule (view payload.now) ≡ None }
     ensures { IfOk result (λ o. o ≡ holder_of (view payload.now)) }
@@ -60,19 +61,8 @@ pub fn holder_of(alloc: Global, payload: &Value) -> Result<Option<KeyName>, Allo
     let Some(jwk) = cnf.get("jwk") else {
         return Ok(None);
     };
-    Ok(Some(jwk_name(alloc, jwk)?))
-}
-
-fn jwk_name(alloc: Global, jwk: &Value) -> Result<KeyName, AllocError>
-    requires { has_float (view jwk.now) ≡ false }
-    ensures { IfOk result (λ name. name ≡ jwk_name (view jwk.now)) }
-{
-    let Ok(key) = jwk.to_string(alloc) else {
-        return Err(AllocError);
-    };
-    let name = format!(in alloc; "jwk:{key}")?;
-    match KeyName::from_text(alloc, name.as_str()) {
-        Ok(name) => Ok(name),
+    match jwk_name(alloc, jwk) {
+        Ok(name) => Ok(Some(name)),
         Err(_) => Err(AllocError),
     }
 }
@@ -92,7 +82,7 @@ fn moment_at(payload: &Value, name: &str) -> Option<u64>
     }
 }
 
-// Whether there is such a member, and it is no whole number from 0.
+// Whether there is such a member, and it is no integer from 0.
 fn has_wrong_moment(payload: &Value, name: &str) -> bool
     ensures { result ≡ is_wrong is_moment (get name.now (view payload.now)) }
 {

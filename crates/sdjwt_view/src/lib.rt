@@ -1,26 +1,17 @@
-//! SD-JWT VC credentials as claim trees that are looked at in place (RFC 9901).
+//! SD-JWT VC credentials (RFC 9901) as claim trees.
 #![tactic(auto)]
 
-mod clash;
+mod content;
 mod credential;
-mod disclosure;
-mod disclosures;
+mod disclosure_list;
 mod error;
 mod facts;
-mod floats;
-mod front;
 mod laws;
-mod marks;
 mod node;
-mod places;
-mod placing;
-mod reach;
 mod reader;
-mod spell;
-mod table;
-mod view;
+mod text_parts;
 
 pub use credential::SdCredential;
 pub use error::{Error, NoMemory};
 pub use laws::read_is_relation;
-pub use view::SdNode;
+pub use node::SdNode;

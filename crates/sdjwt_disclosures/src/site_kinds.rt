@@ -1,0 +1,35 @@
+// The kind of disclosure that a site asks for: with a name in an object, without one in a list.
+ghost use Rattle.std.specs.Prelude.{◌≡◌, map};
+ghost use Rattle.std.specs.List.{list_any};
+ghost use Rattle.sdjwt_disclosures.specs.DisclosureRules.{is_mismatch};
+ghost use Rattle.sdjwt_disclosures.specs.code.Disclosures.{all_said, site_of};
+
+use crate::digest_sites::Site;
+use crate::disclosures::Disclosures;
+
+fn is_mismatch(disclosures: &Disclosures, site: Site<'_>) -> bool
+    ensures { result ≡ is_mismatch (all_said disclosures.now) (site_of site.entry) }
+{
+    match site {
+        Site::InObject(digest) => match disclosures.find(digest) {
+            Some(disclosure) => disclosure.name().is_none(),
+            None => false,
+        },
+        Site::InList(digest) => match disclosures.find(digest) {
+            Some(disclosure) => disclosure.name().is_some(),
+            None => false,
+        },
+    }
+}
+
+/// Whether some site has the digest of a disclosure of the other kind.
+pub fn has_mismatch(disclosures: &Disclosures, sites: &Vec<Site<'_>>) -> bool
+    ensures { result ≡ list_any (is_mismatch (all_said disclosures.now)) (map site_of sites.now.items) }
+{
+    for site in sites {
+        if is_mismatch(disclosures, *site) {
+            return true;
+        }
+    }
+    false
+}

@@ -1,8 +1,0 @@
-use Rattle.std.proofs.Common.{◌≡◌, ◌++◌, drop, map}
-use Rattle.serde_json.specs.View.{items_view}
-use Rattle.sdjwt_view.specs.Held.{all_said}
-use Rattle.sdjwt_view.specs.Places.{texts_in, disclosed_names}
-use Rattle.sdjwt_view.proofs.clash.add_names.Given as goal
-
-abbrev pub invariant-loop-item : goal.invariant-loop-item
-invariant-loop-item l = map (λ s. s.now) l.names.items ++ disclosed_names (all_said l.disclosures) (texts_in (items_view (drop l.item-index l.item-items))) ≡ map (λ s. s.now) l.initial.names.items ++ disclosed_names (all_said l.disclosures) (texts_in (items_view l.item-items))

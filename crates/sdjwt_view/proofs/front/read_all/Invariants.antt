@@ -1,8 +1,0 @@
-use Rattle.std.proofs.Common.{◌≡◌, drop, map}
-use Rattle.sdjwt_view.specs.Disclosures.{all_disclosed}
-use Rattle.claim_tree.specs.Prefixed.{prefixed}
-use Rattle.sdjwt_view.specs.Said.{said}
-use Rattle.sdjwt_view.proofs.front.read_all.Given as goal
-
-abbrev pub invariant-loop-text : goal.invariant-loop-text
-invariant-loop-text l = prefixed (map said l.list.items) (all_disclosed l.hash (map (λ s. s.now) (drop l.text-index l.texts))) ≡ all_disclosed l.hash (map (λ s. s.now) l.texts)

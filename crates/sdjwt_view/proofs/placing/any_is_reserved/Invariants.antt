@@ -1,8 +1,0 @@
-use Rattle.std.proofs.Common.{◌≡◌, drop, map}
-use Rattle.std.specs.List.{list_any}
-use Rattle.base_forms.specs.Texts.{is_among}
-use Rattle.sdjwt_view.specs.Placing.{reserved}
-use Rattle.sdjwt_view.proofs.placing.any_is_reserved.Given as goal
-
-abbrev pub invariant-loop-name : goal.invariant-loop-name
-invariant-loop-name l = list_any (λ k. is_among k reserved) (map (λ s. s.now) (drop l.name-index l.names)) ≡ list_any (λ k. is_among k reserved) (map (λ s. s.now) l.names)

@@ -1,9 +1,0 @@
--- What a refusal of the issuer's JWS is to a credential.
-use Rattle.jws_envelope.specs.declared.error.Error as theirs
-use Rattle.jws_envelope.specs.declared.error.Error.TheVariants as their
-use Rattle.sdjwt_view.specs.declared.error.Error.{Error}
-use Rattle.sdjwt_view.specs.declared.error.Error.TheVariants.{Envelope, NoMemory}
-
-abbrev pub of_envelope : theirs.Error → Error
-of_envelope (their.Refused n) = Envelope n
-of_envelope their.NoMemory = NoMemory

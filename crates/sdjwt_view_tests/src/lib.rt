@@ -1,9 +1,0 @@
-//! Tests of `sdjwt_view`, over its public functions alone: a crate of their own, since a crate is proved once more with the tests in it.
-#![tactic(auto)]
-
-#[cfg(test)]
-mod credentials;
-#[cfg(test)]
-mod disclosures;
-#[cfg(test)]
-mod readings;
