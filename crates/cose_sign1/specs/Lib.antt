@@ -1,4 +1,4 @@
 pub mod Sign1
-pub mod Parts
-pub mod Message
+pub mod Seal
+pub mod code
 pub mod Refusal

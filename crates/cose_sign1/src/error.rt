@@ -1,7 +1,7 @@
-// What the calls of this crate answer where they do not succeed.
+// The errors of this crate.
 use std::alloc::AllocError;
 
-/// Memory was wanting. Nothing else makes a call answer this.
+/// Out of memory.
 #[derive(Clone, Copy, PartialEq, Eq, Debug)]
 pub struct NoMemory;
 
@@ -29,12 +29,12 @@ impl From<claim_tree::NoMemory> for NoMemory {
     }
 }
 
-/// Why an item is no signed message.
+/// Why no signed message was read.
 #[derive(Clone, Copy, PartialEq, Eq, Debug)]
 pub enum Error {
     /// The number of the first rule that the item breaks.
     Refused(u8),
-    /// Memory was wanting. It may come in place of any other answer.
+    /// Out of memory.
     NoMemory,
 }
 

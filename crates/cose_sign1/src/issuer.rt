@@ -1,7 +1,7 @@
 // The name of the key that signed a message.
 ghost use Rattle.std.specs.Prelude.{◌≡◌, IfOk, option_map, string_bytes};
 ghost use Rattle.cbor_core.specs.Seen.{span_of};
-ghost use Rattle.cose_sign1.specs.Parts.{headers_of};
+ghost use Rattle.cose_sign1.specs.code.Parts.{headers_of};
 ghost use Rattle.cose_sign1.specs.Sign1.{certificate_in, leaf_in, key_in, in_either, issuer_of, named_key};
 
 use crate::error::NoMemory;
@@ -17,11 +17,12 @@ const KEY_IDENTIFIER: i128 = 4;
 const CERTIFICATES: i128 = 33;
 
 impl<'a> Sign1<'a> {
-    ghost use Rattle.cose_sign1.specs.Message.{message};
+    ghost use Rattle.cose_sign1.specs.code.Message.{message};
 
-    /// The name of the key that signed it: `x5:` and the lower-case hexadecimal SHA-256 of the leaf certificate where a
-    /// header (label 33) has one; else `mkid:` and the hexadecimal of the key's identifier (label 4), which may be empty.
-    /// The unprotected headers are looked at before the protected ones.
+    /// The name of the key that signed it: `x5:` and the lower-case hexadecimal SHA-256 of the leaf
+    /// certificate where a header (label 33) has one; else `mkid:` and the hexadecimal of the key's
+    /// identifier (label 4), which may be empty. A label that stands in both maps is taken from the
+    /// unprotected one, unless its value is of another form there.
     pub fn issuer_name(&self, alloc: Global) -> Result<KeyName, NoMemory>
         ensures { IfOk result (λ name. name ≡ issuer_of (message self.now)) }
     {
@@ -57,7 +58,7 @@ fn leaf_in<'a>(headers: Option<Item<'a>>) -> Option<&'a [u8]>
     certificate_in(find_label(headers?, CERTIFICATES)?)
 }
 
-// A certificate, or the first one of a chain.
+// A certificate, or the first certificate of a chain.
 fn certificate_in<'a>(value: Item<'a>) -> Option<&'a [u8]>
     ensures { option_map (λ b. b.now) result ≡ certificate_in (span_of value.entry) }
 {

@@ -1,4 +1,4 @@
-//! Signed messages in CBOR: COSE_Sign1, and the names of their issuers.
+//! Signed messages in CBOR (COSE_Sign1, RFC 9052), and the names of the keys that signed them.
 #![tactic(auto)]
 
 mod error;
@@ -7,8 +7,6 @@ mod issuer;
 mod parts;
 mod payload;
 mod sign1;
-#[cfg(test)]
-mod tests;
 
 pub use error::{Error, NoMemory};
 pub use payload::Payload;

@@ -1,14 +1,14 @@
 // The four parts of a message.
 ghost use Rattle.std.specs.Prelude.{◌≡◌, ◌∷◌, [], option_map};
 ghost use Rattle.cbor_core.specs.Seen.{span_of};
-ghost use Rattle.cose_sign1.specs.Parts.{said};
+ghost use Rattle.cose_sign1.specs.code.Parts.{said};
 ghost use Rattle.cose_sign1.specs.Sign1.{untagged, payload_in, parts_in, message_in};
 
 use cbor_core::{Item, Kind};
 
 const SIGN1: u64 = 18;
 
-/// What stands in a message, where it lies.
+/// The four parts of a message. They borrow its bytes.
 #[derive(Clone, Copy)]
 pub struct Parts<'a> {
     pub protected: &'a [u8],
@@ -50,7 +50,9 @@ fn parts_in<'a>(
     payload: Item<'a>,
     signature: Item<'a>,
 ) -> Option<Parts<'a>>
-    ensures { option_map said result ≡ parts_in (span_of protected.entry ∷ span_of unprotected.entry ∷ span_of payload.entry ∷ span_of signature.entry ∷ []) }
+    ensures { option_map said result ≡ parts_in
+        (span_of protected.entry ∷ span_of unprotected.entry ∷ span_of payload.entry ∷ span_of signature.entry
+        ∷ []) }
 {
     let protected = protected.bytes()?;
     if !matches!(unprotected.kind(), Kind::Map) {
@@ -66,7 +68,7 @@ fn parts_in<'a>(
     })
 }
 
-// Bytes, or null where the payload is elsewhere.
+// The payload: bytes, or null where it is detached.
 fn payload_in<'a>(item: Item<'a>) -> Option<Option<&'a [u8]>>
     ensures { option_map (λ o. option_map (λ b. b.now) o) result ≡ payload_in (span_of item.entry) }
 {

@@ -1,6 +1,6 @@
-// Where a payload is.
+// Where a payload stands.
 
-/// Where the payload of a message is awaited.
+/// Where the payload of a message is expected.
 #[derive(Clone, Copy, PartialEq, Eq, Debug)]
 pub enum Payload {
     /// In the message itself.

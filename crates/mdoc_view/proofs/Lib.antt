@@ -9,3 +9,9 @@ mod ValueClaims
 mod Levels
 mod Naming
 mod ReadSteps
+mod Options
+mod Distinct
+mod KeysDiffer
+mod Given
+mod Rules
+mod Law

@@ -1,32 +1,41 @@
 -- A list with no ties has one sorted order.
-use Rattle.std.proofs.Common.{◌≡◌, ℕ, zero, suc, ◌<◌, Bool, true, false, not, cond, List, [], ◌∷◌, ◌++◌, map, filter, flat_map, length, get_or, set, swap, refl, sym, ap, ap₂, ◌∙◌, subst, arith, append_assoc, Ordering, Less, Equal, Greater, is_lt, is_gt, true≢false, IsPermutation, IsSorted}
+use Rattle.std.proofs.Common.{◌≡◌, ℕ, zero, suc, ◌<◌, Bool, true, false, not, cond, List, [], ◌∷◌, ◌++◌, map}
+use Rattle.std.proofs.Common.{filter, flat_map, length, get_or, set, swap, refl, sym, ap, ap₂, ◌∙◌, subst}
+use Rattle.std.proofs.Common.{arith, append_assoc, Ordering, Less, Equal, Greater, is_lt, is_gt, true≢false}
+use Rattle.std.proofs.Common.{IsPermutation, IsSorted}
 use Rattle.std.specs.Prelude.{⊤}
 use Rattle.std.specs.Cmp.{IsTotalOrder}
 use Rattle.std.specs.List.{AllByRecursion}
 use Rattle.std.specs.Ordering.{ordering_reverse}
 use Rattle.std.proofs.lemmas.Cmp.{tied_itself, upto}
 use Rattle.std.proofs.lemmas.List.Elements.{recursion_from_All, All-from_recursion}
-use Rattle.std.proofs.lemmas.List.Sorted.{length_permutation, All-permutation, IsPermutation-refl, IsPermutation-keeps, IsPermutation-trans, IsPermutation-append_left, IsPermutation-append_right, IsPermutation-append_comm}
+use Rattle.std.proofs.lemmas.List.Sorted.{length_permutation, All-permutation, IsPermutation-refl}
+use Rattle.std.proofs.lemmas.List.Sorted.{IsPermutation-keeps, IsPermutation-trans, IsPermutation-append_left}
+use Rattle.std.proofs.lemmas.List.Sorted.{IsPermutation-append_right, IsPermutation-append_comm}
 
 abbrev pub IsAscending : {X : Type 0} → (X → X → Type 0) → List X → Type 0
 IsAscending R [] = ⊤
 IsAscending R (x ∷ xs) = AllByRecursion (R x) xs × IsAscending R xs
 
-filter_as_flat_map : {A : Type 0} (p : A → Bool) (xs : List A) → filter p xs ≡ flat_map (λ x. cond (p x) (x ∷ []) []) xs
+filter_as_flat_map : {A : Type 0} (p : A → Bool) (xs : List A)
+    → filter p xs ≡ flat_map (λ x. cond (p x) (x ∷ []) []) xs
 filter_as_flat_map p [] = refl
 filter_as_flat_map p (x ∷ xs) =
-    elim (p x) as (λ b. cond b (x ∷ filter p xs) (filter p xs) ≡ cond b (x ∷ []) [] ++ flat_map (λ y. cond (p y) (y ∷ []) []) xs)
+    elim (p x) as (λ b. cond b (x ∷ filter p xs) (filter p xs) ≡ cond b (x ∷ []) [] ++ flat_map
+    (λ y. cond (p y) (y ∷ []) []) xs)
     [ true ↦ ap (λ l. x ∷ l) (filter_as_flat_map p xs) | false ↦ filter_as_flat_map p xs ]
 
 module _ {A : Type 0} (P : A → Type 0) where
-  pub all_weaker : (Q : A → Type 0) → ((x : A) → P x → Q x) → (xs : List A) → AllByRecursion P xs → AllByRecursion Q xs
+  pub all_weaker : (Q : A → Type 0) → ((x : A) → P x → Q x) → (xs : List A) → AllByRecursion P xs
+      → AllByRecursion Q xs
   all_weaker Q f [] h = tt
   all_weaker Q f (x ∷ xs) h = (f x h.0, all_weaker Q f xs h.1)
 
   all-filter : (p : A → Bool) (xs : List A) → AllByRecursion P xs → AllByRecursion P (filter p xs)
   all-filter p [] h = tt
   all-filter p (x ∷ xs) h =
-      elim (p x) as (λ b. AllByRecursion P (cond b (x ∷ filter p xs) (filter p xs))) [ true ↦ (h.0, all-filter p xs h.1) | false ↦ all-filter p xs h.1 ]
+      elim (p x) as (λ b. AllByRecursion P (cond b (x ∷ filter p xs) (filter p xs)))
+      [ true ↦ (h.0, all-filter p xs h.1) | false ↦ all-filter p xs h.1 ]
 
 module _ {A : Type 0} (p : A → Bool) where
   filter_all : (xs : List A) → AllByRecursion (λ x. p x ≡ true) xs → filter p xs ≡ xs
@@ -37,7 +46,8 @@ module _ {A : Type 0} (p : A → Bool) where
   filter_none [] h = refl
   filter_none (x ∷ xs) h = rw (h.0, filter_none xs h.1)
 
--- A relation holds along each permutation if it is reflexive and transitive, and goes under a head and over an exchange of two heads.
+-- A relation holds along each permutation if it is reflexive and transitive, and goes under a head and over
+-- an exchange of two heads.
 module _ {X : Type 0} (R : List X → List X → Type 0) (same : (xs : List X) → R xs xs)
     (skip : (x : X) (xs ys : List X) → R xs ys → R (x ∷ xs) (x ∷ ys))
     (turn : (x y : X) (xs : List X) → R (x ∷ y ∷ xs) (y ∷ x ∷ xs))
@@ -46,9 +56,11 @@ module _ {X : Type 0} (R : List X → List X → Type 0) (same : (xs : List X) �
   to_head [] j x d h = absurd (omega arith)
   to_head (y ∷ l) zero x d h = turn x y l
   to_head (y ∷ l) (suc j) x d h =
-      chain _ _ _ (turn x y l) (chain _ _ _ (skip y _ _ (to_head l j x d (omega arith))) (turn y (get_or l j d) (set l j x)))
+      chain _ _ _ (turn x y l)
+      (chain _ _ _ (skip y _ _ (to_head l j x d (omega arith))) (turn y (get_or l j d) (set l j x)))
 
-  exchanged : (l : List X) (i j : ℕ) (d : X) → i < length l → j < length l → R l (set (set l i (get_or l j d)) j (get_or l i d))
+  exchanged : (l : List X) (i j : ℕ) (d : X) → i < length l → j < length l
+      → R l (set (set l i (get_or l j d)) j (get_or l i d))
   exchanged [] i j d p q = absurd (omega arith)
   exchanged (x ∷ l) zero zero d p q = same (x ∷ l)
   exchanged (x ∷ l) zero (suc j) d p q = to_head l j x d (omega arith)
@@ -59,24 +71,32 @@ module _ {X : Type 0} (R : List X → List X → Type 0) (same : (xs : List X) �
   swapped [] i j p q = same []
   swapped (x ∷ l) i j p q = exchanged (x ∷ l) i j x p q
 
-  along_permutation : (xs ys : List X) → IsPermutation xs ys → R xs ys
-  along_permutation xs = IsPermutation-keeps xs (R xs) (same xs) (λ l i j p q h. chain xs l _ h (swapped l i j p q))
+  pub along_permutation : (xs ys : List X) → IsPermutation xs ys → R xs ys
+  along_permutation xs =
+      IsPermutation-keeps xs (R xs) (same xs) (λ l i j p q h. chain xs l _ h (swapped l i j p q))
 
-IsPermutation-flat_map : {A B : Type 0} (f : A → List B) (xs ys : List A) → IsPermutation xs ys → IsPermutation (flat_map f xs) (flat_map f ys)
+IsPermutation-flat_map : {A B : Type 0} (f : A → List B) (xs ys : List A) → IsPermutation xs ys
+    → IsPermutation (flat_map f xs) (flat_map f ys)
 IsPermutation-flat_map f = along_permutation (λ xs ys. IsPermutation (flat_map f xs) (flat_map f ys))
     (λ xs. IsPermutation-refl _)
     (λ x xs ys h. IsPermutation-append_right (f x) _ _ h)
-    (λ x y xs. rw (← append_assoc (f x), ← append_assoc (f y)) (IsPermutation-append_left (flat_map f xs) _ _ (IsPermutation-append_comm (f x) (f y))))
+    (λ x y xs. rw (← append_assoc (f x), ← append_assoc (f y))
+    (IsPermutation-append_left (flat_map f xs) _ _ (IsPermutation-append_comm (f x) (f y))))
     (λ xs ys zs. IsPermutation-trans _ _ _)
 
-IsPermutation-filter : {A : Type 0} (p : A → Bool) (xs ys : List A) → IsPermutation xs ys → IsPermutation (filter p xs) (filter p ys)
-IsPermutation-filter p xs ys h = rw (filter_as_flat_map p xs, filter_as_flat_map p ys) (IsPermutation-flat_map _ xs ys h)
+IsPermutation-filter : {A : Type 0} (p : A → Bool) (xs ys : List A) → IsPermutation xs ys
+    → IsPermutation (filter p xs) (filter p ys)
+IsPermutation-filter p xs ys h =
+    rw (filter_as_flat_map p xs, filter_as_flat_map p ys) (IsPermutation-flat_map _ xs ys h)
 
-ascending-filter : {X : Type 0} (R : X → X → Type 0) (p : X → Bool) (xs : List X) → IsAscending R xs → IsAscending R (filter p xs)
+ascending-filter : {X : Type 0} (R : X → X → Type 0) (p : X → Bool) (xs : List X) → IsAscending R xs
+    → IsAscending R (filter p xs)
 ascending-filter R p [] up = tt
 ascending-filter R p (x ∷ xs) up =
-    elim (p x) as (λ b. IsAscending R (cond b (x ∷ filter p xs) (filter p xs)))
-    [ true ↦ (all-filter (R x) p xs up.0, ascending-filter R p xs up.1) | false ↦ ascending-filter R p xs up.1 ]
+    elim (p x) as (λ b. IsAscending R (cond b (x ∷ filter p xs) (filter p xs))) [
+      | true ↦ (all-filter (R x) p xs up.0, ascending-filter R p xs up.1)
+      | false ↦ ascending-filter R p xs up.1
+    ]
 
 module _ {X : Type 0} (cmp : X → X → Ordering) (total : IsTotalOrder cmp) where
   abbrev pub AtMost : X → X → Type 0
@@ -87,16 +107,20 @@ module _ {X : Type 0} (cmp : X → X → Ordering) (total : IsTotalOrder cmp) wh
   turned Equal h = refl
   turned Greater h = refl
 
-  below_all : (x : X) (ys : List X) → IsSorted cmp (x ∷ ys) → IsAscending AtMost ys → AllByRecursion (AtMost x) ys
+  below_all : (x : X) (ys : List X) → IsSorted cmp (x ∷ ys) → IsAscending AtMost ys
+      → AllByRecursion (AtMost x) ys
   below_all x [] sorted up = tt
   below_all x (y ∷ ys) sorted up =
-      let first : AtMost x y = ap is_gt (total.antisymm x y) ∙ turned _ (sorted 0 x (omega arith) (omega arith)) in
+      let first : AtMost x y = ap is_gt (total.antisymm x y)
+      ∙ turned _ (sorted 0 x (omega arith) (omega arith)) in
       (first, all_weaker _ (AtMost x) (λ z. upto total x y z first) ys up.0)
 
   pub ascending_from_sorted : (xs : List X) → IsSorted cmp xs → IsAscending AtMost xs
   ascending_from_sorted [] sorted = tt
   ascending_from_sorted (x ∷ xs) sorted =
-      let tail : IsSorted cmp xs = λ k d p q. rw Rattle.std.proofs.Common.add-one (rw Rattle.std.proofs.Common.add-one at (sorted (suc k) d (omega arith) (omega arith))) in
+      let tail : IsSorted cmp xs =
+      λ k d p q. rw Rattle.std.proofs.Common.add-one
+      (rw Rattle.std.proofs.Common.add-one at (sorted (suc k) d (omega arith) (omega arith))) in
       let up = ascending_from_sorted xs tail in
       (below_all x xs sorted up, up)
 
@@ -106,7 +130,8 @@ module _ {X : Type 0} (cmp : X → X → Ordering) (total : IsTotalOrder cmp) wh
   still_above : (x y z : X) → is_above x y ≡ true → AtMost y z → is_above x z ≡ true
   still_above x y z h up = go (cmp x y) (cmp y z) refl refl h up
     where
-      go : (a b : Ordering) → cmp x y ≡ a → cmp y z ≡ b → is_lt a ≡ true → is_gt b ≡ false → is_above x z ≡ true
+      go : (a b : Ordering) → cmp x y ≡ a → cmp y z ≡ b → is_lt a ≡ true → is_gt b ≡ false
+          → is_above x z ≡ true
       go Less Less p q s t = ap is_lt (total.trans x y z p q)
       go Less Equal p q s t = ap is_lt (sym (Rattle.std.proofs.lemmas.Cmp.alike_right total y z x q) ∙ p)
       go Less Greater p q s t = absurd (true≢false t)
@@ -114,7 +139,8 @@ module _ {X : Type 0} (cmp : X → X → Ordering) (total : IsTotalOrder cmp) wh
       go Greater b p q s t = absurd (true≢false (sym s))
 
   -- a sorted list is what is not above x, and then what is
-  split : (x : X) (ys : List X) → IsAscending AtMost ys → ys ≡ filter (λ z. not (is_above x z)) ys ++ filter (is_above x) ys
+  split : (x : X) (ys : List X) → IsAscending AtMost ys
+      → ys ≡ filter (λ z. not (is_above x z)) ys ++ filter (is_above x) ys
   split x [] up = refl
   split x (y ∷ ys) up = go (is_above x y) refl (split x ys up.1)
     where
@@ -123,26 +149,42 @@ module _ {X : Type 0} (cmp : X → X → Ordering) (total : IsTotalOrder cmp) wh
       go false e more = rw e (ap (λ l. y ∷ l) more)
       go true e more =
           let above = all_weaker _ (λ z. is_above x z ≡ true) (λ z. still_above x y z e) ys up.0 in
-          rw (e, filter_none _ ys (all_weaker _ (λ z. not (is_above x z) ≡ false) (λ z h. ap not h) ys above), filter_all _ ys above)
+          rw (
+            e,
+            filter_none _ ys (all_weaker _ (λ z. not (is_above x z) ≡ false) (λ z h. ap not h) ys above),
+            filter_all _ ys above,
+          )
 
   one : (x : X) (ys : List X) → IsPermutation (x ∷ []) ys → ys ≡ x ∷ []
   one x [] same = absurd (omega (arith, length_permutation _ _ same))
-  one x (y ∷ []) same = ap (λ z. z ∷ []) (recursion_from_All (λ z. z ≡ x) (y ∷ []) (All-permutation (λ z. z ≡ x) (x ∷ []) (y ∷ []) same (All-from_recursion (λ z. z ≡ x) (x ∷ []) (refl, tt)))).0
+  one x (y ∷ []) same =
+      ap (λ z. z ∷ [])
+      (recursion_from_All (λ z. z ≡ x) (y ∷ [])
+      (All-permutation (λ z. z ≡ x) (x ∷ []) (y ∷ []) same
+      (All-from_recursion (λ z. z ≡ x) (x ∷ []) (refl, tt)))).0
   one x (y ∷ z ∷ ys) same = absurd (omega (arith, length_permutation _ _ same))
 
-  -- Of the orders of a list with no ties, one is sorted. Its head is all that is not above the head, and the rest follows by induction.
-  pub same_order : (xs ys : List X) → IsAscending (λ a b. cmp a b ≡ Less) xs → IsPermutation xs ys → IsAscending AtMost ys → ys ≡ xs
+  -- Of the orders of a list with no ties, one is sorted. Its head is all that is not above the head, and the
+  -- rest follows by induction.
+  pub same_order : (xs ys : List X) → IsAscending (λ a b. cmp a b ≡ Less) xs → IsPermutation xs ys
+      → IsAscending AtMost ys → ys ≡ xs
   same_order [] [] strict same up = refl
   same_order [] (y ∷ ys) strict same up = absurd (omega (arith, length_permutation _ _ same))
   same_order (x ∷ xs) ys strict same up =
       let here : is_above x x ≡ false = ap is_lt (tied_itself total x) in
       let above = all_weaker _ (λ z. is_above x z ≡ true) (λ z h. ap is_lt h) xs strict.0 in
       let first : filter (λ z. not (is_above x z)) (x ∷ xs) ≡ x ∷ [] =
-      rw (here, filter_none _ xs (all_weaker _ (λ z. not (is_above x z) ≡ false) (λ z h. ap not h) xs above)) in
+      rw (here, filter_none _ xs (all_weaker _ (λ z. not (is_above x z) ≡ false) (λ z h. ap not h) xs above))
+      in
       let later : filter (is_above x) (x ∷ xs) ≡ xs = rw (here, filter_all _ xs above) in
-      let head = one x _ (subst (λ l. IsPermutation l (filter (λ z. not (is_above x z)) ys)) first (IsPermutation-filter (λ z. not (is_above x z)) _ _ same)) in
-      let tail = same_order xs _ strict.1 (subst (λ l. IsPermutation l (filter (is_above x) ys)) later (IsPermutation-filter (is_above x) _ _ same)) (ascending-filter AtMost _ ys up) in
+      let head = one x _
+      (subst (λ l. IsPermutation l (filter (λ z. not (is_above x z)) ys)) first
+      (IsPermutation-filter (λ z. not (is_above x z)) _ _ same)) in
+      let tail = same_order xs _ strict.1
+      (subst (λ l. IsPermutation l (filter (is_above x) ys)) later
+      (IsPermutation-filter (is_above x) _ _ same)) (ascending-filter AtMost _ ys up) in
       split x ys up ∙ ap₂ ◌++◌ head tail
 
-  pub sorted_unique : (xs ys : List X) → IsAscending (λ a b. cmp a b ≡ Less) xs → IsPermutation xs ys → IsSorted cmp ys → ys ≡ xs
+  pub sorted_unique : (xs ys : List X) → IsAscending (λ a b. cmp a b ≡ Less) xs → IsPermutation xs ys
+      → IsSorted cmp ys → ys ≡ xs
   sorted_unique xs ys strict same sorted = same_order xs ys strict same (ascending_from_sorted ys sorted)

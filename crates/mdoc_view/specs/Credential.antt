@@ -1,16 +1,16 @@
--- What a credential in memory says.
-use Rattle.claim_tree.specs.Owned.{tree_of}
-use Rattle.cose_sign1.specs.Message.{message}
-use Rattle.mdoc_view.specs.Reading.{Credential}
+-- What a credential in memory says: the bytes that it was read from, their content, and the credential in it
+-- (ISO/IEC 18013-5, section 8.3.2.1.2.2).
+use Rattle.std.specs.Prelude.{ℕ, List}
+use Rattle.claim_tree.specs.Credential.{Credential}
+use Rattle.mdoc_view.specs.Reading.{Content}
+use Rattle.mdoc_view.specs.code.Content.{content_in_memory}
 use Rattle.mdoc_view.specs.declared.credential.MdCredential.{MdCredential}
 
+abbrev pub source_of : MdCredential → List ℕ
+source_of c = c.bytes.now
+
+abbrev pub content_of : MdCredential → Content
+content_of c = content_in_memory c.content
+
 abbrev pub meaning : MdCredential → Credential
-meaning c = record {
-  auth = message c.auth;
-  tree = tree_of c.root;
-  kind = c.kind.now;
-  issuer = c.issuer;
-  holder = c.holder;
-  first = c.first;
-  past = c.past;
-}
+meaning c = (content_of c).credential

@@ -1,5 +1,7 @@
--- The claim tree of a mobile document: its namespaces, in each its elements, and the value of each (ISO/IEC 18013-5, section 8.3.2.1.2.2).
-use Rattle.std.specs.Prelude.{ℕ, zero, suc, Bool, true, false, ◌&&◌, List, [], ◌∷◌, map, Option, Some, option_map, option_and_then, if◌then◌else◌}
+-- The claim tree of a mobile document: its namespaces, in each its elements, and the value of each (ISO/IEC
+-- 18013-5, section 8.3.2.1.2.2).
+use Rattle.std.specs.Prelude.{ℕ, zero, suc, Bool, true, false, ◌&&◌, List, [], ◌∷◌, map, Option, Some}
+use Rattle.std.specs.Prelude.{option_map, option_and_then, if◌then◌else◌}
 use Rattle.std.specs.Option.{option_map_or}
 use Rattle.std.specs.Ordering.{nat_cmp, is_lt, match_ordering}
 use Rattle.std.specs.Cmp.Lexicographic.{slice_cmp}
@@ -7,9 +9,10 @@ use Rattle.claim_tree.specs.Tree.{Tree, Text, Whole, Truth, Null, Bytes, Other, 
 use Rattle.claim_tree.specs.Parts.{Part, Named, elements_of, members_of}
 use Rattle.cbor_core.specs.declared.kind.Kind.{Kind}
 use Rattle.cbor_core.specs.declared.kind.Kind.TheVariants as kind
-use Rattle.cbor_core.specs.Views.{Span, kind_of, whole_of, bytes_of, utf8_text_of, truth_of, tag_of, items_of, entries_of}
-use Rattle.mdoc_view.specs.Looks.{Utf8, Entries}
-use Rattle.mdoc_view.specs.Items.{Signed, Namespace}
+use Rattle.cbor_core.specs.Views.{Span, kind_of, whole_of, bytes_of, utf8_text_of, truth_of, tag_of, items_of}
+use Rattle.cbor_core.specs.Views.{entries_of}
+use Rattle.mdoc_view.specs.MapFields.{Utf8, Entries}
+use Rattle.mdoc_view.specs.IssuerSignedItems.{Namespace}
 
 -- ---- records
 
@@ -36,16 +39,19 @@ rise (l ∷ m ∷ ms) = is_lt (slice_cmp nat_cmp l.0 m.0) && rise (m ∷ ms)
 abbrev pub marked : Bool → List Valued → List Named
 marked held ms = map (λ m. (m.0, held, m.1)) ms
 
--- The record of named trees, each of them held or none. Where a name is doubled, as in no document that is read, it is of no kind.
+-- The record of named trees, all of them held or none. Where two names are equal, as in no document that is
+-- read, it is `Other`.
 abbrev pub record_of : Bool → List Valued → Tree
 record_of held ms = if rise (in_order ms) then RecordOf (members_of (marked held (in_order ms))) else Other
 
 -- ---- the tree of an item
 
--- the values of a map by their names, or none where a key is no text
+-- the values of a map by their names, or none where a key is not a text
 abbrev pub named_values : (Span → Tree) → Entries → Option (List Valued)
 named_values inner [] = Some []
-named_values inner (e ∷ es) = option_and_then (λ name. option_map (λ ms. (name, inner e.1) ∷ ms) (named_values inner es)) (utf8_text_of e.0)
+named_values inner (e ∷ es) =
+    option_and_then (λ name. option_map (λ ms. (name, inner e.1) ∷ ms) (named_values inner es))
+    (utf8_text_of e.0)
 
 -- a map whose keys are all texts, nothing of it held
 abbrev pub map_tree : (Span → Tree) → Span → Tree
@@ -73,19 +79,19 @@ tree_by inner kind.Truth item = option_map_or Truth (truth_of item) Other
 tree_by inner kind.Null item = Null
 tree_by inner kind.Other item = Other
 
--- an item's tree, as far as n items inside one another
+-- an item's tree, to a depth of n items inside one another
 unfoldable pub value_at : ℕ → Span → Tree
 value_at zero item = Other
 value_at (suc n) item = tree_by (value_at n) (kind_of item) item
 
--- The tree of an element's value. It lies in a map of at most 32 levels, so that no part of it is further down.
+-- The tree of an element's value. The value lies in a map of at most 32 levels, so no part of it lies deeper.
 abbrev pub value_of : Span → Tree
 value_of item = value_at 32 item
 
 -- ---- the tree of a document: each namespace and each element is held
 
 abbrev pub namespace_tree : Namespace → Tree
-namespace_tree n = record_of true (map (λ i. (i.element, value_of i.value)) n.items)
+namespace_tree n = record_of true (map (λ i. (i.element_identifier, value_of i.element_value)) n.items)
 
 unfoldable pub document_tree : List Namespace → Tree
 document_tree ns = record_of true (map (λ n. (n.name, namespace_tree n)) ns)

@@ -1,20 +1,21 @@
-// The key that a document is bound to.
+// The device key, which a document is bound to.
 ghost use Rattle.std.specs.Prelude.{◌≡◌, [], IfOk, option_map, string_bytes};
 ghost use Rattle.cbor_core.specs.Seen.{span_of};
 ghost use Rattle.cbor_core.specs.Views.{kind_of, entries_of};
-ghost use Rattle.mdoc_view.specs.Object.{has_wrong_key};
-ghost use Rattle.mdoc_view.specs.Key.{device_key_in, is_label, is_parameter, is_labelled, is_key, written, put_written, key_bytes, key_name, holder_of};
-ghost use Rattle.mdoc_view.specs.Pairs.{owned_pairs};
+ghost use Rattle.mdoc_view.specs.MobileSecurityObject.{has_wrong_key};
+ghost use Rattle.mdoc_view.specs.DeviceKey.{device_key_in, is_label, is_parameter, is_labelled, is_key};
+ghost use Rattle.mdoc_view.specs.DeviceKey.{written, put_written, key_bytes, key_name, holder_of};
+ghost use Rattle.mdoc_view.specs.code.Pairs.{owned_pairs};
 
 use crate::error::NoMemory;
-use crate::looks::is_map;
+use crate::map_fields::is_map;
 use base_forms::to_hex;
 use cbor_core::{Item, Kind, Writer};
 use claim_tree::KeyName;
 use std::alloc::Global;
 use std::collections::BTreeMap;
 
-/// The name of the key, if there is one: `cose:` and the hexadecimal of the key in its deterministic encoding.
+/// The name of the device key, if there is one: `cose:` and the hexadecimal of its deterministic encoding.
 pub fn holder_of(alloc: Global, map: Item) -> Result<Option<KeyName>, NoMemory>
     ensures { IfOk result (λ o. o ≡ holder_of (entries_of (span_of map.entry))) }
 {
@@ -24,7 +25,8 @@ pub fn holder_of(alloc: Global, map: Item) -> Result<Option<KeyName>, NoMemory>
     }
 }
 
-/// Whether there is no key, or it is no map from integers or texts to integers, texts, byte strings or truth values.
+/// Whether there is no device key, or it is no map from integers or texts to integers, texts, byte strings or
+/// booleans.
 pub fn has_wrong_key(map: Item) -> bool
     ensures { result ≡ has_wrong_key (entries_of (span_of map.entry)) }
 {
@@ -87,9 +89,10 @@ fn key_bytes(alloc: Global, key: Item) -> Result<Vec<u8>, NoMemory>
     Ok(writer.finish())
 }
 
-// The entries as written, each once, by the bytes of their keys.
+// The entries as written, in the byte order of their keys.
 fn written_pairs(alloc: Global, key: Item) -> Result<BTreeMap<Vec<u8>, Vec<u8>>, NoMemory>
-    ensures { IfOk result (λ pairs. owned_pairs pairs.entries ≡ put_written (entries_of (span_of key.entry)) []) }
+    ensures { IfOk result
+        (λ pairs. owned_pairs pairs.entries ≡ put_written (entries_of (span_of key.entry)) []) }
 {
     let mut pairs = BTreeMap::new(alloc);
     for (label, parameter) in key.entries() {
@@ -100,7 +103,7 @@ fn written_pairs(alloc: Global, key: Item) -> Result<BTreeMap<Vec<u8>, Vec<u8>>,
     Ok(pairs)
 }
 
-// An item in its one deterministic way.
+// The deterministic encoding of an integer, a text, a byte string or a boolean.
 fn written(alloc: Global, item: Item) -> Result<Vec<u8>, NoMemory>
     ensures { IfOk result (λ bytes. bytes.items ≡ written (span_of item.entry)) }
 {

@@ -1,10 +1,10 @@
-// Why no document is read.
+// The errors of this crate.
 ghost use Rattle.std.specs.Prelude.{◌≡◌};
-ghost use Rattle.mdoc_view.specs.Conversions.{of_cbor, of_cose};
+ghost use Rattle.mdoc_view.specs.code.Conversions.{of_cbor, of_cose};
 
 use std::alloc::{AllocError, AllocFailed};
 
-/// Memory was wanting. Nothing else makes a call answer this.
+/// Out of memory.
 #[derive(Clone, Copy, PartialEq, Eq, Debug)]
 pub struct NoMemory;
 
@@ -44,16 +44,16 @@ impl From<claim_tree::NoMemory> for NoMemory {
     }
 }
 
-/// Why bytes are no mobile document.
+/// Why no mobile document was read.
 #[derive(Clone, Copy, PartialEq, Eq, Debug)]
 pub enum Error {
-    /// The number of the first rule that the bytes break, other than the first and the third.
+    /// The number of the first rule that the bytes break. Rules 1 and 3 have variants of their own.
     Refused(u8),
-    /// The bytes are no one item of CBOR, by the rule of this number.
+    /// Rule 1: the bytes are not one item of CBOR. The number is that of the broken rule of CBOR.
     Cbor(u8),
-    /// The issuer's signed message is refused, by the rule of this number.
+    /// Rule 3: `issuerAuth` is refused. The number is that of the broken rule of signed messages.
     Cose(u8),
-    /// Memory was wanting. It may come in place of any other answer.
+    /// Out of memory.
     NoMemory,
 }
 
@@ -68,7 +68,7 @@ impl From<NoMemory> for Error {
     }
 }
 
-/// What a refusal of their CBOR is to the bytes of a document.
+/// The error of a document whose bytes are refused as CBOR.
 pub(crate) fn cbor_error(error: cbor_core::Error) -> Error
     ensures { result ≡ of_cbor error }
 {
@@ -78,7 +78,7 @@ pub(crate) fn cbor_error(error: cbor_core::Error) -> Error
     }
 }
 
-/// What a refusal of the issuer's signed message is to a document.
+/// The error of a document whose issuer's signed message is refused.
 pub(crate) fn cose_error(error: cose_sign1::Error) -> Error
     ensures { result ≡ of_cose error }
 {

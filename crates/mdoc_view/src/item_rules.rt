@@ -4,61 +4,64 @@ ghost use Rattle.base_forms.specs.Rules.{rule, first};
 ghost use Rattle.std.specs.List.{list_any, list_all};
 ghost use Rattle.cbor_core.specs.Seen.{span_of};
 ghost use Rattle.cbor_core.specs.Views.{entries_of};
-ghost use Rattle.mdoc_view.specs.Items.{digests_rule, elements_differ, lacks, deviates, any_item};
-ghost use Rattle.mdoc_view.specs.Judged.{IsJudged};
-ghost use Rattle.mdoc_view.specs.Parts.{said_signed, said_namespace, said_object, entries_in};
+ghost use Rattle.mdoc_view.specs.IssuerSignedItems.{digests_rule, elements_differ, lacks, deviates, any_item};
+ghost use Rattle.mdoc_view.specs.code.Checked.{IsChecked};
+ghost use Rattle.mdoc_view.specs.code.Parts.{said_item, said_namespace, said_security_object, entries_in};
 
-use crate::digests::{Digests, Numbers};
 use crate::error::NoMemory;
-use crate::items::{Namespace, Signed, are_too_many, read_namespaces};
-use crate::object::Object;
+use crate::issuer_signed_items::{IssuerSignedItem, Namespace, are_too_many, read_namespaces};
+use crate::mobile_security_object::MobileSecurityObject;
+use crate::value_digests::{NamespaceDigests, ValueDigests};
 use base_forms::{HashName, are_distinct};
 use cbor_core::Item;
 use std::alloc::{AllocError, Global};
 
-/// What the namespaces say, or the first rule on signed items that is broken.
+/// The namespaces with their items, or the first broken rule on issuer-signed items.
 #[derive(Drop)]
-pub enum Judged<'t> {
+pub enum CheckedItems<'t> {
     Read(Vec<Namespace<'t>>),
     Broken(u8),
 }
 
-/// Reads the signed items of a document by its security object.
+/// Reads the issuer-signed items of a document and checks them against the mobile security object.
 #[tactic(auto, unfolding(base_forms::specs::Rules::rule, crate::specs::Refusal::items_rule))]
-pub fn judge<'t>(
+pub fn check_items<'t>(
     alloc: Global,
-    object: &Object<'t>,
+    object: &MobileSecurityObject<'t>,
     namespaces: Option<Item<'t>>,
-) -> Result<Judged<'t>, NoMemory>
-    ensures { IfOk result (λ judged. IsJudged (said_object object.now) (entries_in namespaces.entry) judged) }
+) -> Result<CheckedItems<'t>, NoMemory>
+    ensures { IfOk result
+        (λ checked. IsChecked (said_security_object object.now) (entries_in namespaces.entry) checked) }
 {
     if are_too_many(namespaces) {
-        return Ok(Judged::Broken(9));
+        return Ok(CheckedItems::Broken(9));
     }
     let Some(list) = read_namespaces(alloc, namespaces)? else {
-        return Ok(Judged::Broken(10));
+        return Ok(CheckedItems::Broken(10));
     };
     match digests_rule(alloc, object.hash(), object.digests, &list)? {
-        Some(rule) => Ok(Judged::Broken(rule)),
-        None => Ok(Judged::Read(list)),
+        Some(rule) => Ok(CheckedItems::Broken(rule)),
+        None => Ok(CheckedItems::Read(list)),
     }
 }
 
-// The first that is broken of the rules that no element stands twice in its namespace, that each item has a digest, and
-// that it is the item's own.
-#[tactic(auto, unfolding(base_forms::specs::Rules::rule, crate::specs::Items::digests_rule))]
+// The first broken rule of these: no element stands twice in its namespace; each item has a digest; the
+// digest is that of the item.
+#[tactic(auto, unfolding(base_forms::specs::Rules::rule, crate::specs::IssuerSignedItems::digests_rule))]
 fn digests_rule<'t>(
     alloc: Global,
     hash: HashName,
     digests: Item<'t>,
     namespaces: &[Namespace<'t>],
 ) -> Result<Option<u8>, AllocError>
-    ensures { IfOk result (λ o. o ≡ digests_rule hash (entries_of (span_of digests.entry)) (map said_namespace namespaces.now)) }
+    ensures { IfOk result
+        (λ o. o ≡ digests_rule hash (entries_of (span_of digests.entry))
+        (map said_namespace namespaces.now)) }
 {
     if !all_differ(alloc, namespaces)? {
         return Ok(Some(11));
     }
-    let digests = Digests::new(alloc, digests)?;
+    let digests = ValueDigests::new(alloc, digests)?;
     digest_rule(alloc, hash, &digests, namespaces)
 }
 
@@ -80,68 +83,78 @@ fn elements_differ(alloc: Global, namespace: &Namespace) -> Result<bool, AllocEr
     are_distinct(alloc, &elements)
 }
 
-fn elements<'t>(alloc: Global, items: &[Signed<'t>]) -> Result<Vec<&'t str>, AllocError>
-    ensures { IfOk result (λ v. map (λ s. s.now) v.items ≡ map (λ i. i.element) (map said_signed items.now)) }
+fn elements<'t>(alloc: Global, items: &[IssuerSignedItem<'t>]) -> Result<Vec<&'t str>, AllocError>
+    ensures { IfOk result
+        (λ v. map (λ s. s.now) v.items ≡ map (λ i. i.element_identifier) (map said_item items.now)) }
 {
     let mut elements = Vec::new(alloc);
     for item in items {
-        elements.push(item.element)?;
+        elements.push(item.element_identifier)?;
     }
     Ok(elements)
 }
 
-// The first that is broken of the rules that each item has a digest, and that it is the item's own. The digests of a
-// namespace are put in order once for both.
+// The first broken rule of these: each item has a digest; the digest is that of the item. The digests of a
+// namespace are put into an index once for both rules.
 #[tactic(auto, unfolding(base_forms::specs::Rules::rule))]
 fn digest_rule<'t>(
     alloc: Global,
     hash: HashName,
-    digests: &Digests<'t>,
+    digests: &ValueDigests<'t>,
     namespaces: &[Namespace<'t>],
 ) -> Result<Option<u8>, AllocError>
     ensures { IfOk result (λ o. o ≡ first
-        (rule 12 (list_any (any_item (lacks (entries_of (span_of digests.now.source)))) (map said_namespace namespaces.now))
-        ∷ rule 13 (list_any (any_item (deviates hash (entries_of (span_of digests.now.source)))) (map said_namespace namespaces.now))
+        (rule 12 (list_any (any_item (lacks (entries_of (span_of digests.now.source))))
+        (map said_namespace namespaces.now))
+        ∷ rule 13 (list_any (any_item (deviates hash (entries_of (span_of digests.now.source))))
+        (map said_namespace namespaces.now))
         ∷ [])) }
 {
     let mut deviate = false;
     for namespace in namespaces {
-        let numbers = digests.under(alloc, namespace.name)?;
-        if any_item_lacks(&numbers, &namespace.items) {
+        let own = digests.under(alloc, namespace.name)?;
+        if any_item_lacks(&own, &namespace.items) {
             return Ok(Some(12));
         }
-        deviate = deviate || any_item_deviates(hash, &numbers, &namespace.items);
+        deviate = deviate || any_item_deviates(hash, &own, &namespace.items);
     }
     if deviate { Ok(Some(13)) } else { Ok(None) }
 }
 
-fn any_item_lacks<'t>(numbers: &Numbers<'t>, items: &[Signed<'t>]) -> bool
-    ensures { result ≡ list_any (lacks (entries_of (span_of numbers.now.source)) numbers.now.name.now) (map said_signed items.now) }
+fn any_item_lacks<'t>(digests: &NamespaceDigests<'t>, items: &[IssuerSignedItem<'t>]) -> bool
+    ensures { result ≡ list_any (lacks (entries_of (span_of digests.now.source)) digests.now.name.now)
+        (map said_item items.now) }
 {
     for item in items {
-        if numbers.find(item.number).is_none() {
+        if digests.find(item.digest_id).is_none() {
             return true;
         }
     }
     false
 }
 
-fn any_item_deviates<'t>(hash: HashName, numbers: &Numbers<'t>, items: &[Signed<'t>]) -> bool
-    ensures { result ≡ list_any (deviates hash (entries_of (span_of numbers.now.source)) numbers.now.name.now) (map said_signed items.now) }
+fn any_item_deviates<'t>(
+    hash: HashName,
+    digests: &NamespaceDigests<'t>,
+    items: &[IssuerSignedItem<'t>],
+) -> bool
+    ensures { result ≡ list_any (deviates hash (entries_of (span_of digests.now.source)) digests.now.name.now)
+        (map said_item items.now) }
 {
     for item in items {
-        if deviates(hash, numbers, item) {
+        if deviates(hash, digests, item) {
             return true;
         }
     }
     false
 }
 
-// The digest is over the item with its tag, as it stands in the document.
-fn deviates<'t>(hash: HashName, numbers: &Numbers<'t>, item: &Signed<'t>) -> bool
-    ensures { result ≡ deviates hash (entries_of (span_of numbers.now.source)) numbers.now.name.now (said_signed item.now) }
+// Whether an item has another digest than its own. Its own is over its whole encoding, with its tag.
+fn deviates<'t>(hash: HashName, digests: &NamespaceDigests<'t>, item: &IssuerSignedItem<'t>) -> bool
+    ensures { result ≡ deviates hash (entries_of (span_of digests.now.source)) digests.now.name.now
+        (said_item item.now) }
 {
-    match numbers.find(item.number) {
+    match digests.find(item.digest_id) {
         Some(digest) => digest != hash.digest(item.span).bytes(),
         None => false,
     }

@@ -1,21 +1,24 @@
-//! Mobile documents of ISO/IEC 18013-5 as claim trees that are looked at in place.
+//! Mobile documents (ISO/IEC 18013-5) as credentials with a claim tree.
 #![tactic(auto)]
 
+mod content;
 mod credential;
 mod device_key;
-mod digests;
 mod error;
-mod issued;
+mod issuer_signed;
+mod issuer_signed_items;
+mod item_fields;
 mod item_rules;
-mod items;
-mod looks;
-mod members;
+mod laws;
+mod map_fields;
+mod mobile_security_object;
 mod node;
-mod object;
 mod reader;
 mod tree;
 mod value;
+mod value_digests;
 
 pub use credential::MdCredential;
 pub use error::{Error, NoMemory};
+pub use laws::read_is_relation;
 pub use node::MdNode;

@@ -1,20 +1,21 @@
-// A node of a document's claim tree, which is looked at in place.
+// A node of a document's claim tree.
 ghost use Rattle.std.specs.Prelude.{◌≡◌, true};
 ghost use Rattle.claim_tree.specs.Owned.{tree_of};
 ghost use Rattle.claim_tree.specs.Tree.{is_claim};
+ghost use Rattle.mdoc_view.specs.Node.{node_tree, node_is_claim};
 
 use claim_tree::{ClaimNode, ClaimView, OwnedNode, OwnedTree, Shape};
 
 /// A node of a mobile document's claim tree. Its texts live as long as the credential.
 #[derive(Clone, Copy)]
 pub struct MdNode<'a> {
-    pub(crate) node: OwnedNode<'a>,
+    node: OwnedNode<'a>,
 }
 
 impl<'a> MdNode<'a> {
     pub(crate) fn new(root: &'a OwnedTree) -> MdNode<'a>
         requires { is_claim (tree_of root.now) ≡ true }
-        ensures { result.node.root.now ≡ root.now }
+        ensures { node_tree result ≡ tree_of root.now }
     {
         MdNode {
             node: OwnedNode::new(root),
@@ -23,9 +24,9 @@ impl<'a> MdNode<'a> {
 }
 
 impl<'a> ClaimNode for MdNode<'a> {
-    ghost tree = { λ n. tree_of n.node.root.now };
+    ghost tree = { node_tree };
 
-    ghost claim = { λ n. n.node.claim };
+    ghost claim = { node_is_claim };
 
     fn shape(self) -> Shape {
         self.node.shape()

@@ -2,9 +2,9 @@
 ghost use Rattle.std.specs.Prelude.{◌≡◌, IfOk, map};
 ghost use Rattle.claim_tree.specs.Owned.{tree_of};
 ghost use Rattle.mdoc_view.specs.Value.{document_tree, namespace_tree};
-ghost use Rattle.mdoc_view.specs.Parts.{said_namespace};
+ghost use Rattle.mdoc_view.specs.code.Parts.{said_namespace};
 
-use crate::items::Namespace;
+use crate::issuer_signed_items::Namespace;
 use crate::value::{Named, record, value_tree};
 use claim_tree::OwnedTree;
 use std::alloc::{AllocError, Global};
@@ -28,8 +28,8 @@ fn namespace_tree(alloc: Global, namespace: &Namespace) -> Result<OwnedTree, All
 {
     let mut members = Vec::new(alloc);
     for item in namespace.items.as_slice() {
-        let tree = value_tree(alloc, item.value)?;
-        let name = item.element;
+        let tree = value_tree(alloc, item.element_value)?;
+        let name = item.element_identifier;
         members.push(Named { name, tree })?;
     }
     record(alloc, true, members)

@@ -1,4 +1,4 @@
-// The claim tree of an item.
+// The claim tree of an element's value.
 ghost use Rattle.std.specs.Prelude.{◌≡◌, IfOk, map};
 ghost use Rattle.claim_tree.specs.Tree.{Text, Whole, Truth, Bytes, Other};
 ghost use Rattle.std.specs.Option.{option_map_or};
@@ -7,15 +7,17 @@ ghost use Rattle.std.specs.Cmp.Lexicographic.{slice_cmp};
 ghost use Rattle.claim_tree.specs.Owned.{tree_of, named_of};
 ghost use Rattle.cbor_core.specs.Seen.{span_of};
 ghost use Rattle.cbor_core.specs.Views.{whole_of, bytes_of, utf8_text_of, truth_of};
-ghost use Rattle.mdoc_view.specs.Value.{record_of, marked, rise, map_tree, list_tree, content_tree, value_at, value_of};
-ghost use Rattle.mdoc_view.specs.Valued.{value_in, valued};
-ghost use Rattle.mdoc_view.specs.Sorted.{AreSorted};
+ghost use Rattle.mdoc_view.specs.Value.{record_of, marked, rise, map_tree, list_tree, content_tree, value_at};
+ghost use Rattle.mdoc_view.specs.Value.{value_of};
+ghost use Rattle.mdoc_view.specs.code.Valued.{value_in, valued};
+ghost use Rattle.mdoc_view.specs.code.Sorted.{AreSorted};
 
 use cbor_core::{Item, Kind};
 use claim_tree::{OwnedElement, OwnedMember, OwnedTree};
 use std::alloc::{AllocError, Global};
 
-/// How many items may lie inside one another in an element's value, which lies in the map of its signed item.
+/// How many items may lie inside one another in an element's value. The value lies in the map of its
+/// issuer-signed item.
 const LEVELS: usize = 32;
 
 /// The tree of an element's value.
@@ -32,7 +34,7 @@ pub struct Named<'k> {
     pub tree: OwnedTree,
 }
 
-/// The record of some named trees, each of them held or none; a value of no kind where a name is doubled.
+/// The record of some named trees, all of them held or none. It is `Other` where two names are equal.
 pub fn record(alloc: Global, held: bool, members: Vec<Named<'_>>) -> Result<OwnedTree, AllocError>
     ensures { IfOk result (λ t. tree_of t ≡ record_of held (valued members.entry.items)) }
 {
@@ -44,7 +46,7 @@ pub fn record(alloc: Global, held: bool, members: Vec<Named<'_>>) -> Result<Owne
     }
 }
 
-// The members with names of their own.
+// The members with owned names.
 fn owned(alloc: Global, held: bool, members: Vec<Named<'_>>) -> Result<Vec<OwnedMember>, AllocError>
     ensures { IfOk result (λ list. map named_of list.items ≡ marked held (valued members.entry.items)) }
 {
@@ -98,13 +100,13 @@ fn tree_at(alloc: Global, levels: usize, item: Item) -> Result<OwnedTree, AllocE
         return Ok(OwnedTree::Other);
     }
     match item.kind() {
-        Kind::Whole => Ok(whole_tree(item)),
+        Kind::Whole => Ok(integer_tree(item)),
         Kind::Bytes => bytes_tree(alloc, item),
-        Kind::Text => text_tree(alloc, item),
+        Kind::Text => string_tree(alloc, item),
         Kind::List => list_tree(alloc, levels - 1, item),
         Kind::Map => map_tree(alloc, levels - 1, item),
         Kind::Tag => content_tree(alloc, levels - 1, item),
-        Kind::Truth => Ok(truth_tree(item)),
+        Kind::Truth => Ok(boolean_tree(item)),
         Kind::Null => Ok(OwnedTree::Null),
         Kind::Other => Ok(OwnedTree::Other),
     }
@@ -137,7 +139,7 @@ fn map_tree(alloc: Global, levels: usize, item: Item) -> Result<OwnedTree, Alloc
     record(alloc, false, members)
 }
 
-// The tree of what a tag stands on.
+// The tree of the item that a tag is on.
 #[cycle(tree)]
 fn content_tree(alloc: Global, levels: usize, item: Item) -> Result<OwnedTree, AllocError>
     ensures { IfOk result (λ t. tree_of t ≡ content_tree (value_at levels) (span_of item.entry)) }
@@ -148,7 +150,7 @@ fn content_tree(alloc: Global, levels: usize, item: Item) -> Result<OwnedTree, A
     }
 }
 
-fn whole_tree(item: Item) -> OwnedTree
+fn integer_tree(item: Item) -> OwnedTree
     ensures { tree_of result ≡ option_map_or Whole (whole_of (span_of item.entry)) Other }
 {
     match item.whole() {
@@ -157,7 +159,7 @@ fn whole_tree(item: Item) -> OwnedTree
     }
 }
 
-fn truth_tree(item: Item) -> OwnedTree
+fn boolean_tree(item: Item) -> OwnedTree
     ensures { tree_of result ≡ option_map_or Truth (truth_of (span_of item.entry)) Other }
 {
     match item.truth() {
@@ -175,7 +177,7 @@ fn bytes_tree(alloc: Global, item: Item) -> Result<OwnedTree, AllocError>
     }
 }
 
-fn text_tree(alloc: Global, item: Item) -> Result<OwnedTree, AllocError>
+fn string_tree(alloc: Global, item: Item) -> Result<OwnedTree, AllocError>
     ensures { IfOk result (λ t. tree_of t ≡ option_map_or Text (utf8_text_of (span_of item.entry)) Other) }
 {
     match item.text() {

@@ -8,5 +8,6 @@ abbrev pub invariant-loop-key : goal.invariant-loop-key
 invariant-loop-key l = record {
   can_next : (goal.iterator-loop-key).can_next l.key-iterator;
   is_finite : (goal.iterator-loop-key).is_finite l.key-iterator;
-  left : find_label l.label (pair_up (items_in l.key-iterator.items.rest.now)) ≡ find_label l.label (entries_of (span_of l.fn.headers));
+  left : find_label l.label (pair_up (items_in l.key-iterator.items.rest.now)) ≡ find_label l.label
+      (entries_of (span_of l.fn.headers));
 }

@@ -2,8 +2,8 @@ use Rattle.std.proofs.Common.{List, ℕ, nat_cmp, sym, ap, ap₂, ◌∙◌}
 use Rattle.std.specs.BTreeMap.{insert_entry}
 use Rattle.std.specs.Cmp.Lexicographic.{slice_cmp}
 use Rattle.cbor_core.specs.Seen.{entries_left}
-use Rattle.mdoc_view.specs.Key.{put_written}
-use Rattle.mdoc_view.specs.Pairs.{owned_pairs}
+use Rattle.mdoc_view.specs.DeviceKey.{put_written}
+use Rattle.mdoc_view.specs.code.Pairs.{owned_pairs}
 use Rattle.mdoc_view.proofs.KeyPairs.{put_pair}
 use Rattle.mdoc_view.proofs.device_key.written_pairs.Goals as goal
 
@@ -16,7 +16,8 @@ loop-label-preserved-in_ok-insert c =
       left = ap (put_written (entries_left c.next.new.self))
           (ap owned_pairs c.in_ok-insert.ensures.entries
           ∙ put_pair c.loop-label.pairs.entries c.in_ok-label.label c.in_ok-parameter.parameter
-          ∙ ap₂ (λ (k v : List ℕ). insert_entry (slice_cmp nat_cmp) before k v) c.in_ok-label.ensures c.in_ok-parameter.ensures)
+          ∙ ap₂ (λ (k v : List ℕ). insert_entry (slice_cmp nat_cmp) before k v) c.in_ok-label.ensures
+          c.in_ok-parameter.ensures)
           ∙ ap (λ es. put_written es before) (sym c.in-Some.ensures.steps)
           ∙ c.loop-label.invariant.left;
     }
@@ -30,7 +31,8 @@ loop-label-preserved c =
       left = ap (put_written (entries_left c.next.new.self))
           (ap owned_pairs c.in_ok-insert.ensures.entries
           ∙ put_pair c.loop-label.pairs.entries c.in_ok-label.label c.in_ok-parameter.parameter
-          ∙ ap₂ (λ (k v : List ℕ). insert_entry (slice_cmp nat_cmp) before k v) c.in_ok-label.ensures c.in_ok-parameter.ensures)
+          ∙ ap₂ (λ (k v : List ℕ). insert_entry (slice_cmp nat_cmp) before k v) c.in_ok-label.ensures
+          c.in_ok-parameter.ensures)
           ∙ ap (λ es. put_written es before) (sym c.in-Some.ensures.steps)
           ∙ c.loop-label.invariant.left;
     }

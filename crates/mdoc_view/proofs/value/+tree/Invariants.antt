@@ -3,7 +3,7 @@ use Rattle.claim_tree.specs.Owned.{part_of}
 use Rattle.cbor_core.specs.Seen.{span_of, items_left, entries_left}
 use Rattle.cbor_core.specs.Views.{items_of, entries_of}
 use Rattle.mdoc_view.specs.Value.{plain_parts, named_values, value_at}
-use Rattle.mdoc_view.specs.Valued.{valued}
+use Rattle.mdoc_view.specs.code.Valued.{valued}
 use Rattle.claim_tree.specs.Prefixed.{prefixed}
 use Rattle.mdoc_view.proofs.value.+tree.Given as goal
 
@@ -23,12 +23,14 @@ abbrev pub invariant-list_tree-loop-element : goal.invariant-list_tree-loop-elem
 invariant-list_tree-loop-element l = record {
   can_next : (goal.iterator-list_tree-loop-element).can_next l.element-iterator;
   is_finite : (goal.iterator-list_tree-loop-element).is_finite l.element-iterator;
-  left : map part_of l.elements.items ++ plain_parts (value_at l.levels) (items_left l.element-iterator) ≡ plain_parts (value_at l.levels) (items_of (span_of l.fn.item));
+  left : map part_of l.elements.items ++ plain_parts (value_at l.levels) (items_left l.element-iterator)
+      ≡ plain_parts (value_at l.levels) (items_of (span_of l.fn.item));
 }
 
 abbrev pub invariant-map_tree-loop-key : goal.invariant-map_tree-loop-key
 invariant-map_tree-loop-key l = record {
   can_next : (goal.iterator-map_tree-loop-key).can_next l.key-iterator;
   is_finite : (goal.iterator-map_tree-loop-key).is_finite l.key-iterator;
-  left : prefixed (valued l.members.items) (named_values (value_at l.levels) (entries_left l.key-iterator)) ≡ named_values (value_at l.levels) (entries_of (span_of l.fn.item));
+  left : prefixed (valued l.members.items) (named_values (value_at l.levels) (entries_left l.key-iterator))
+      ≡ named_values (value_at l.levels) (entries_of (span_of l.fn.item));
 }

@@ -2,11 +2,12 @@ use Rattle.std.proofs.Common.{◌≡◌, ◌++◌, map}
 use Rattle.std.specs.Vec.Iter.{into_iter_items}
 use Rattle.claim_tree.specs.Owned.{named_of}
 use Rattle.mdoc_view.specs.Value.{marked}
-use Rattle.mdoc_view.specs.Valued.{valued}
+use Rattle.mdoc_view.specs.code.Valued.{valued}
 use Rattle.mdoc_view.proofs.value.owned.Given as goal
 
 abbrev pub invariant-loop-name : goal.invariant-loop-name
 invariant-loop-name l =
     (goal.iterator-loop-name).can_next l.name-iterator ×
     (goal.iterator-loop-name).is_finite l.name-iterator
-    × (map named_of l.list.items ++ marked l.held (valued (into_iter_items l.name-iterator)) ≡ marked l.held (valued l.fn.members.items))
+    × (map named_of l.list.items ++ marked l.held (valued (into_iter_items l.name-iterator)) ≡ marked l.held
+    (valued l.fn.members.items))

@@ -1,11 +1,11 @@
-use Rattle.std.proofs.Common.{rules, ◌≡◌, List, map, true, false, ap, ◌∙◌}
+use Rattle.std.proofs.Common.{rules, ◌≡◌, List, true, false, ap, ◌∙◌}
 use Rattle.claim_tree.specs.Tree.{Other, RecordOf}
 use Rattle.claim_tree.specs.Parts.{Named, members_of}
 use Rattle.claim_tree.specs.Owned.{tree_of}
 use Rattle.claim_tree.specs.declared.owned.OwnedTree.{Other as OwnedOther, the_lemmas}
 use Rattle.claim_tree.proofs.OwnedParts.{tree_of-Record}
 use Rattle.mdoc_view.specs.Value.{rise}
-use Rattle.mdoc_view.specs.Valued.{valued}
+use Rattle.mdoc_view.specs.code.Valued.{valued}
 use Rattle.mdoc_view.proofs.InOrder.{record_in_order, no_record}
 use Rattle.mdoc_view.proofs.value.record.Goals as goal
 
@@ -14,10 +14,12 @@ returns-in_ok-owned c =
     let up : rise (valued c.sorted-members.result.items) ≡ true = search rules in
     tree_of-Record c.in_ok-owned.field-0
     ∙ ap (λ (ms : List Named). RecordOf (members_of ms)) c.in_ok-owned.ensures
-    ∙ record_in_order c.args.held (valued c.args.members.items) (valued c.sorted-members.result.items) c.sorted-members.ensures up
+    ∙ record_in_order c.args.held (valued c.args.members.items)
+    (valued c.sorted-members.result.items) c.sorted-members.ensures up
 
 pub returns-else-rise : goal.returns-else-rise
 returns-else-rise c =
     let down : rise (valued c.sorted-members.result.items) ≡ false = search rules in
     let is : tree_of OwnedOther ≡ Other = search (rules, the_lemmas) in
-    is ∙ no_record c.args.held (valued c.args.members.items) (valued c.sorted-members.result.items) c.sorted-members.ensures down
+    is ∙ no_record c.args.held (valued c.args.members.items)
+    (valued c.sorted-members.result.items) c.sorted-members.ensures down

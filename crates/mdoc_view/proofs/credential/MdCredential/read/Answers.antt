@@ -1,24 +1,31 @@
-use Rattle.std.proofs.Common.{◌≡◌, None, sym, ◌∙◌, subst}
+use Rattle.std.proofs.Common.{sym, ap, ◌∙◌, subst}
+use Rattle.std.proofs.lemmas.Result.{err_from_is_err_and}
 use Rattle.cbor_core.specs.Seen.{span_of}
 use Rattle.mdoc_view.specs.Errors.{IsRefusal}
-use Rattle.mdoc_view.specs.Issued.{issued_in}
-use Rattle.mdoc_view.specs.Refusal.{refusal_of, refusal_of_issued}
-use Rattle.mdoc_view.specs.declared.error.Error.{Error}
-use Rattle.mdoc_view.proofs.ReadSteps.{in_ok, in_err, past_cbor, cbor_refused}
+use Rattle.mdoc_view.specs.Reading.{content_in}
+use Rattle.mdoc_view.specs.Refusal.{refusal_of}
+use Rattle.mdoc_view.proofs.ReadSteps.{past_cbor, cbor_refused}
 use Rattle.mdoc_view.proofs.credential.MdCredential.read.Goals as goal
 
-pub returns-in-Ok-clause-sound : goal.returns-in-Ok-clause-sound
-returns-in-Ok-clause-sound c =
+pub invariant_of-result : goal.invariant_of-result
+invariant_of-result c =
     let span = span_of c.in-Ok.item in
-    let whole = past_cbor c.args.bytes.now span c.in-Ok.ensures.found.0 c.in-Ok.ensures.found.1 in
-    in_ok c.read_document.result (λ _. refusal_of_issued (issued_in span) ≡ None) (λ _. refusal_of c.args.bytes.now ≡ None) (λ _ h. whole ∙ h) c.read_document.ensures.sound
+    let found = c.in-Ok.ensures.found in
+    record {
+      sound = past_cbor c.args.bytes.now span found.0 found.1 ∙ c.in_ok-content-in-Ok.ensures.sound;
+      read = ap content_in (sym found.1) ∙ c.in_ok-content-in-Ok.ensures.read;
+    }
 
-pub returns-in-Ok-clause-refused : goal.returns-in-Ok-clause-refused
-returns-in-Ok-clause-refused c =
-    let span = span_of c.in-Ok.item in
-    let whole = past_cbor c.args.bytes.now span c.in-Ok.ensures.found.0 c.in-Ok.ensures.found.1 in
-    in_err c.read_document.result (λ (e : Error). IsRefusal (refusal_of_issued (issued_in span)) e) (λ (e : Error). IsRefusal (refusal_of c.args.bytes.now) e)
-    (λ e h. subst (λ r. IsRefusal r e) (sym whole) h) c.read_document.ensures.refused
+pub returns-in_err-content-in-Ok-clause-refused : goal.returns-in_err-content-in-Ok-clause-refused
+returns-in_err-content-in-Ok-clause-refused c =
+    let p = err_from_is_err_and c.from_residual.result c.from_residual.ensures.1 in
+    let found = c.in-Ok.ensures.found in
+    let whole = past_cbor c.args.bytes.now (span_of c.in-Ok.item) found.0 found.1 in
+    rw (p.1, p.2)
+    (subst (λ r. IsRefusal r c.in_err-content-in-Ok.field-0.0) (sym whole)
+    c.in_err-content-in-Ok.ensures.refused)
 
 pub returns-in-Err-clause-refused : goal.returns-in-Err-clause-refused
-returns-in-Err-clause-refused c = subst (IsRefusal (refusal_of c.args.bytes.now)) (sym c.cbor_error.ensures) (cbor_refused c.args.bytes.now c.in-Err.error c.in-Err.ensures.refused)
+returns-in-Err-clause-refused c =
+    subst (IsRefusal (refusal_of c.args.bytes.now)) (sym c.cbor_error.ensures)
+    (cbor_refused c.args.bytes.now c.in-Err.error c.in-Err.ensures.refused)
