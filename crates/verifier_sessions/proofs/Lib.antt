@@ -1,0 +1,13 @@
+pub mod Examples
+pub mod Posted
+pub mod Later
+pub mod Told
+pub mod Steps
+pub mod Keeping
+pub mod Texts
+pub mod Maps
+pub mod Counts
+pub mod Rules
+pub mod Runs
+pub mod Turns
+pub mod Apart
