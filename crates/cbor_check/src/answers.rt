@@ -3,7 +3,7 @@ ghost use Rattle.std.specs.Prelude.{◌≡◌, ◌++◌, ◌<◌, length, IfOk, 
 ghost use Rattle.base_forms.specs.Lines.{lines_of};
 ghost use Rattle.cbor_check.specs.Answers.{answers, shown, line};
 
-use crate::verdict::{NoMemory, Verdict, judge};
+use crate::verdict::{NoMemory, Verdict, describe};
 use base_forms::cut_line;
 use std::alloc::{AllocError, Global};
 
@@ -15,7 +15,7 @@ pub fn answers(alloc: Global, text: &str) -> Result<String, NoMemory>
     let mut rest = text;
     while !rest.is_empty() {
         let (line, after) = cut_line(rest);
-        let verdict = judge(alloc, line)?;
+        let verdict = describe(alloc, line)?;
         add_verdict(&mut found, verdict)?;
         rest = after;
     }

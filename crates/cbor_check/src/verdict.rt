@@ -1,4 +1,4 @@
-// Judging a line.
+// What is said of a line.
 ghost use Rattle.std.specs.Prelude.{◌≡◌, IfOk};
 ghost use Rattle.cbor_core.specs.Rules.{broken_rule};
 ghost use Rattle.cbor_check.specs.Verdicts.{verdict_by, verdict_of};
@@ -31,17 +31,17 @@ impl From<AllocError> for NoMemory {
 const LEVELS: u32 = 32;
 
 /// The verdict on a line.
-pub fn judge(alloc: Global, line: &str) -> Result<Verdict, NoMemory>
+pub fn describe(alloc: Global, line: &str) -> Result<Verdict, NoMemory>
     ensures { IfOk result (λ verdict. verdict ≡ verdict_of line.now) }
 {
     match from_hex(alloc, line) {
-        Ok(bytes) => judge_bytes(alloc, &bytes),
+        Ok(bytes) => describe_bytes(alloc, &bytes),
         Err(base_forms::Error::Refused(_)) => Ok(Verdict::NoHexadecimal),
         Err(base_forms::Error::NoMemory) => Err(NoMemory),
     }
 }
 
-fn judge_bytes(alloc: Global, bytes: &[u8]) -> Result<Verdict, NoMemory>
+fn describe_bytes(alloc: Global, bytes: &[u8]) -> Result<Verdict, NoMemory>
     ensures { IfOk result (λ verdict. verdict ≡ verdict_by (broken_rule 32 bytes.now)) }
 {
     match read_one(alloc, bytes, LEVELS) {

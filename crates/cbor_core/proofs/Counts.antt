@@ -1,8 +1,8 @@
 -- There are no more items in bytes than bytes.
 use Rattle.std.proofs.Common.{ℕ, zero, suc, ◌≤◌, List, [], ◌∷◌, length, Result, Ok, Err, arith}
-use Rattle.cbor_core.specs.declared.head.Fault.{Fault}
-use Rattle.cbor_core.specs.declared.head.TheConstants.{MAX_DEPTH}
-use Rattle.cbor_core.specs.Item.{Reader, item_at}
+use Rattle.cbor_validity.specs.declared.head.Fault.{Fault}
+use Rattle.cbor_validity.specs.declared.head.TheConstants.{MAX_DEPTH}
+use Rattle.cbor_validity.specs.Item.{Reader, item_at}
 use Rattle.cbor_core.specs.Views.{on_ok, cut, before, items_in, pair_up}
 
 one_more : (r : Result (List ℕ) Fault) (f : List ℕ → List (List ℕ)) (n : ℕ)

@@ -1,13 +1,3 @@
-pub mod Steps
-pub mod Fronts
-pub mod Reading
-pub mod Deeper
-pub mod Cutting
-pub mod Inside
-pub mod OneWalk
 pub mod Written
 pub mod Steady
-pub mod Keys
-pub mod Ordered
-pub mod Small
 pub mod Counts

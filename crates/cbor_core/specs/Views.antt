@@ -1,56 +1,15 @@
 -- What an item says (RFC 8949, section 3), by the bytes of its encoding.
-use Rattle.std.specs.Prelude.{ℕ, zero, suc, ◌-◌, List, [], ◌∷◌, length, take, Bool, true, false, Option, Some}
-use Rattle.std.specs.Prelude.{None, Result, Ok, Err, ℤ, pos, negsuc, option_and_then, ◌==◌, if◌then◌else◌}
+use Rattle.std.specs.Prelude.{ℕ, List, [], ◌∷◌, Bool, true, false, Option, Some, None, ℤ, pos, negsuc}
+use Rattle.std.specs.Prelude.{option_and_then, ◌==◌, if◌then◌else◌}
 use Rattle.std.specs.Option.{option_map_or}
 use Rattle.std.specs.Str.{bytes_eq, is_utf8}
-use Rattle.cbor_core.specs.declared.head.Fault.{Fault}
-use Rattle.cbor_core.specs.declared.head.Head.{Head}
-use Rattle.cbor_core.specs.declared.head.Head.TheVariants as head
+use Rattle.cbor_validity.specs.declared.head.Head.{Head}
+use Rattle.cbor_validity.specs.declared.head.Head.TheVariants as head
 use Rattle.cbor_core.specs.declared.kind.Kind.{Kind}
 use Rattle.cbor_core.specs.declared.kind.Kind.TheVariants as kind
-use Rattle.cbor_core.specs.declared.head.TheConstants.{MAX_DEPTH}
-use Rattle.cbor_core.specs.Head.{head_at}
-use Rattle.cbor_core.specs.Item.{Reader, item_at}
-
--- an item: the bytes of its encoding
-abbrev pub Span : Type 0
-Span = List ℕ
-
-abbrev pub on_ok : {A B : Type 0} → Result A Fault → (A → B) → B → B
-on_ok (Ok x) f d = f x
-on_ok (Err e) f d = d
-
-abbrev pub ends : Result (List ℕ) Fault → Bool
-ends (Ok []) = true
-ends (Ok (b ∷ bytes)) = false
-ends (Err f) = false
-
--- the bytes are one item, with at most MAX_DEPTH lists, maps and tags inside one another
-unfoldable pub is_item : List ℕ → Bool
-is_item bytes = ends (item_at MAX_DEPTH bytes)
-
--- the bytes before `rest`, which is the end of them
-abbrev pub before : List ℕ → List ℕ → List ℕ
-before rest bytes = take (length bytes - length rest) bytes
-
--- the bytes cut into what `read` reads, one after another, up to where it fails
-unfoldable pub cut : Reader → ℕ → List ℕ → List (List ℕ)
-cut read turns [] = []
-cut read zero (b ∷ bytes) = []
-cut read (suc turns) (b ∷ bytes) =
-    on_ok (read (b ∷ bytes)) (λ rest. before rest (b ∷ bytes) ∷ cut read turns rest) []
-
--- the items that the bytes are, one after another
-unfoldable pub items_in : List ℕ → List (List ℕ)
-items_in bytes = cut (item_at MAX_DEPTH) (length bytes) bytes
-
--- the bytes without the break at the end
-abbrev pub before_break : List ℕ → List ℕ
-before_break bytes = take (length bytes - 1) bytes
-
--- a value that an item's head and the bytes after it give
-abbrev pub by_head : {A : Type 0} → (Head → List ℕ → A) → A → List ℕ → A
-by_head f d bytes = on_ok (head_at bytes) (λ h. f h.0 h.1) d
+pub use Rattle.cbor_validity.specs.Parts.{Span, on_ok, ends, before, before_break, by_head, text_by, map_by}
+pub use Rattle.cbor_validity.specs.Parts.{pair_up, entries_of, inside_by}
+unfoldable pub use Rattle.cbor_validity.specs.Parts.{is_item, cut, items_in, text_of, pairs_of, inside_of}
 
 abbrev pub whole_by : Head → List ℕ → Option ℤ
 whole_by (head.Unsigned n) back = Some (pos n)
@@ -67,13 +26,6 @@ bytes_by _ back = None
 
 unfoldable pub bytes_of : List ℕ → Option (List ℕ)
 bytes_of bytes = by_head bytes_by None bytes
-
-abbrev pub text_by : Head → List ℕ → Option (List ℕ)
-text_by (head.Text n) back = Some back
-text_by _ back = None
-
-unfoldable pub text_of : List ℕ → Option (List ℕ)
-text_of bytes = by_head text_by None bytes
 
 abbrev pub if_utf8 : List ℕ → Option (List ℕ)
 if_utf8 text = if is_utf8 text then Some text else None
@@ -136,25 +88,6 @@ elements_of bytes = by_head list_by [] bytes
 abbrev pub items_of : List ℕ → List (List ℕ)
 items_of bytes = items_in (elements_of bytes)
 
-abbrev pub map_by : Head → List ℕ → List ℕ
-map_by (head.Map (Some n)) back = back
-map_by (head.Map None) back = before_break back
-map_by _ back = []
-
--- the bytes of a map's keys and values, one after another
-unfoldable pub pairs_of : List ℕ → List ℕ
-pairs_of bytes = by_head map_by [] bytes
-
--- keys and values in turn, as pairs
-abbrev pub pair_up : List (List ℕ) → List (List ℕ × List ℕ)
-pair_up [] = []
-pair_up (key ∷ []) = []
-pair_up (key ∷ value ∷ items) = (key, value) ∷ pair_up items
-
--- the entries of a map, in written order
-abbrev pub entries_of : List ℕ → List (List ℕ × List ℕ)
-entries_of bytes = pair_up (items_in (pairs_of bytes))
-
 -- the item is this text string
 abbrev pub is_text : List ℕ → List ℕ → Bool
 is_text name bytes = option_map_or (λ text. bytes_eq text name) (text_of bytes) false
@@ -163,15 +96,3 @@ is_text name bytes = option_map_or (λ text. bytes_eq text name) (text_of bytes)
 abbrev pub find_in : List ℕ → List (List ℕ × List ℕ) → Option (List ℕ)
 find_in name [] = None
 find_in name (entry ∷ entries) = if is_text name entry.0 then Some entry.1 else find_in name entries
-
-abbrev pub inside_by : Head → List ℕ → List ℕ
-inside_by (head.List (Some n)) back = back
-inside_by (head.List None) back = before_break back
-inside_by (head.Map (Some n)) back = back
-inside_by (head.Map None) back = before_break back
-inside_by (head.Tag n) back = back
-inside_by _ back = []
-
--- the bytes of the items directly inside an item, one after another
-unfoldable pub inside_of : List ℕ → List ℕ
-inside_of bytes = by_head inside_by [] bytes

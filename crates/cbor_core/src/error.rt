@@ -1,22 +1,7 @@
-//! The errors of this crate.
+//! The error of reading.
 
-use std::alloc::{AllocError, AllocFailed};
-
-/// Out of memory.
-#[derive(Clone, Copy, PartialEq, Eq, Debug, Drop)]
-pub struct NoMemory;
-
-impl From<AllocError> for NoMemory {
-    fn from(_error: AllocError) -> NoMemory {
-        NoMemory
-    }
-}
-
-impl<T: Drop> From<AllocFailed<T>> for NoMemory {
-    fn from(_error: AllocFailed<T>) -> NoMemory {
-        NoMemory
-    }
-}
+use cbor_writer::NoMemory;
+use std::alloc::AllocError;
 
 /// Why bytes were not read.
 #[derive(Clone, Copy, PartialEq, Eq, Debug, Drop)]
@@ -26,6 +11,17 @@ pub enum Error {
     Refused(u8),
     /// Out of memory.
     NoMemory,
+}
+
+impl From<AllocError> for Error {
+    ghost use Rattle.std.specs.Prelude.{◌≡◌};
+    ghost use Rattle.cbor_core.specs.declared.error.Error.TheVariants.{NoMemory as WantsMemory};
+
+    ghost from_gives = { λ _ error. error ≡ WantsMemory };
+
+    fn from(_error: AllocError) -> Error {
+        Error::NoMemory
+    }
 }
 
 impl From<NoMemory> for Error {

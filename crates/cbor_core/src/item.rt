@@ -1,7 +1,7 @@
 //! Views of items.
 
-ghost use Rattle.cbor_core.specs.Head.{Gives};
-ghost use Rattle.cbor_core.specs.Item.{item_at};
+ghost use Rattle.cbor_validity.specs.Head.{Gives};
+ghost use Rattle.cbor_validity.specs.Item.{item_at};
 ghost use Rattle.std.specs.Prelude.{◌≡◌, ◌≤◌, ◌<◌, ◌^◌, ◌-◌, ◌≤ℤ◌, ◌<ℤ◌, pos, negsuc, length, IfOk, IfSome};
 ghost use Rattle.std.specs.Prelude.{IsTrue, MatchOption, option_map, None, ℕ, List};
 ghost use Rattle.std.specs.Option.{option_copied};
@@ -10,9 +10,8 @@ ghost use Rattle.cbor_core.specs.Views.{is_item, items_in, whole_of, bytes_of, t
 ghost use Rattle.cbor_core.specs.Views.{kind_of, elements_of, items_of, pairs_of, entries_of, pair_up};
 ghost use Rattle.cbor_core.specs.Views.{find_in, inside_of, before, before_break, if_utf8, utf8_text_of};
 
-use crate::head::{Fault, Head, MAX_DEPTH, head_at};
 use crate::kind::Kind;
-use crate::walk::skip;
+use cbor_validity::{Fault, Head, MAX_DEPTH, head_at, skip};
 use std::str;
 
 /// A view of an item: the bytes of its encoding. No call on it takes memory.
@@ -138,7 +137,7 @@ impl<'a> Item<'a> {
     }
 
     /// The bytes of the text string that the item is, if it is one.
-    #[tactic(auto, unfolding(crate::specs::Views::text_of))]
+    #[tactic(auto, unfolding(cbor_validity::specs::Parts::text_of))]
     pub(crate) fn text_bytes(self) -> Option<&'a [u8]>
         ensures { option_map (λ b. b.now) result ≡ text_of (span_of self.entry) }
     {
@@ -177,7 +176,7 @@ impl<'a> Item<'a> {
     }
 
     /// The keys and values of a map, in written order. Any other item has none.
-    #[tactic(auto, unfolding(crate::specs::Views::pairs_of), using(crate::proofs::Counts::entries_count))]
+    #[tactic(auto, unfolding(cbor_validity::specs::Parts::pairs_of), using(crate::proofs::Counts::entries_count))]
     pub fn entries(self) -> Entries<'a>
         ensures left { entries_left result ≡ entries_of (span_of self.entry) }
         ensures count { length (entries_left result) < 2 ^ 64 }
@@ -193,7 +192,7 @@ impl<'a> Item<'a> {
     }
 
     /// The items directly inside the item: elements, keys and values, or the item that is tagged.
-    #[tactic(auto, unfolding(crate::specs::Views::inside_of))]
+    #[tactic(auto, unfolding(cbor_validity::specs::Parts::inside_of))]
     pub(crate) fn inside(self) -> Items<'a>
         ensures { items_left result ≡ items_in (inside_of (span_of self.entry)) }
     {

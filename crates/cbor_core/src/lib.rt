@@ -2,20 +2,14 @@
 #![tactic(auto)]
 
 mod error;
-mod fine;
-mod head;
 mod item;
-mod key;
 mod kind;
 pub mod laws;
-mod order;
 mod read;
-mod walk;
-mod writer;
 
-pub use error::{Error, NoMemory};
-pub use head::MAX_DEPTH;
+pub use cbor_validity::MAX_DEPTH;
+pub use cbor_writer::{NoMemory, Writer};
+pub use error::Error;
 pub use item::{Entries, Item, Items};
 pub use kind::Kind;
 pub use read::read_one;
-pub use writer::Writer;

@@ -2,18 +2,17 @@
 
 ghost use Rattle.std.specs.Prelude.{◌≡◌, ◌≤◌, Some, None, IfOk, IfErr};
 ghost use Rattle.cbor_core.specs.Seen.{span_of};
-ghost use Rattle.cbor_core.specs.code.Fine.{fine_at};
+ghost use Rattle.cbor_validity.specs.Fine.{fine_at};
 ghost use Rattle.cbor_core.specs.Rules.{each_inside, is_fine_text, rule_of, broken_rule};
 ghost use Rattle.cbor_core.specs.Refusal.{IsRefusal};
 
 use crate::error::Error;
-use crate::fine::{after_fine, is_utf8};
-use crate::head::{Fault, MAX_DEPTH};
 use crate::item::Item;
+use cbor_validity::{Fault, MAX_DEPTH, after_fine, is_utf8};
 use std::alloc::Global;
 
 /// Whether the item is UTF-8, if it is a text string.
-#[tactic(auto, unfolding(crate::specs::Rules::is_fine_text))]
+#[tactic(auto, unfolding(cbor_validity::specs::Fine::is_fine_text))]
 fn is_text_fine(item: Item) -> bool
     ensures { result ≡ is_fine_text (span_of item.entry) }
 {
@@ -24,7 +23,7 @@ fn is_text_fine(item: Item) -> bool
 }
 
 /// Whether each text string in the item is UTF-8.
-#[tactic(auto, using(crate::proofs::Inside::each_fails, crate::proofs::Inside::each_flat, crate::proofs::Inside::each_deep))]
+#[tactic(auto, using(cbor_validity::proofs::Inside::each_fails, cbor_validity::proofs::Inside::each_flat, cbor_validity::proofs::Inside::each_deep))]
 fn texts_are_utf8(item: Item, depth: u32) -> bool
     ensures { result ≡ each_inside is_fine_text depth (span_of item.entry) }
 {
@@ -55,7 +54,7 @@ fn rule_of(fault: Fault) -> u8
 }
 
 /// The rule that the bytes break. They do not begin with a fine item.
-#[tactic(auto, unfolding(crate::specs::Rules::broken_rule), using(crate::proofs::Inside::wrong_maps))]
+#[tactic(auto, unfolding(crate::specs::Rules::broken_rule), using(cbor_validity::proofs::Inside::wrong_maps))]
 fn front_rule(bytes: &[u8], depth: u32) -> u8
     requires depth { depth ≤ MAX_DEPTH }
     requires front { fine_at depth bytes.now ≡ None }
@@ -78,7 +77,7 @@ fn front_rule(bytes: &[u8], depth: u32) -> u8
 /// lists, maps and tags inside one another, 7 bytes after the item. If heads break rule 1, 2, 3 or 6, it is
 /// the rule that the first such head breaks. Otherwise it is the least broken rule of 4, 5 and 7. `NoMemory`
 /// when out of memory.
-#[tactic(auto, unfolding(crate::specs::Rules::broken_rule), using(crate::proofs::Inside::before_nothing, crate::proofs::Inside::fine_texts, crate::proofs::Inside::fine_maps))]
+#[tactic(auto, unfolding(crate::specs::Rules::broken_rule), using(cbor_validity::proofs::Inside::before_nothing, cbor_validity::proofs::Inside::fine_texts, cbor_validity::proofs::Inside::fine_maps))]
 pub fn read_one<'a>(alloc: Global, bytes: &'a [u8], depth: u32) -> Result<Item<'a>, Error>
     requires { depth ≤ 64 }
     ensures found { IfOk result (λ item. (broken_rule depth bytes.now ≡ None) × (span_of item ≡ bytes.now)) }

@@ -1,7 +1,7 @@
 use Rattle.std.proofs.Common.{◌≡◌, List, ℕ, Some, Bor, sym, ap, ◌∙◌}
 use Rattle.std.specs.Prelude.{option_map}
-use Rattle.cbor_core.specs.code.Fine.{fine_at}
-use Rattle.cbor_core.proofs.OneWalk.{whole_item}
+use Rattle.cbor_validity.specs.Fine.{fine_at}
+use Rattle.cbor_validity.proofs.OneWalk.{whole_item}
 use Rattle.cbor_core.proofs.read.read_one.Goals as goal
 
 pub of-requires : goal.of-requires

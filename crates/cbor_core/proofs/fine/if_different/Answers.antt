@@ -1,5 +1,0 @@
-use Rattle.std.proofs.Common.{rules}
-use Rattle.cbor_core.proofs.fine.if_different.Goals as goal
-
-pub returns-then-are_different : goal.returns-then-are_different
-returns-then-are_different c = search rules

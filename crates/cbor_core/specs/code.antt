@@ -1,3 +1,0 @@
--- What ties the code to the definitions: reading and checking in one walk, and the meaning of keys.
-pub mod Fine
-pub mod KeySeen

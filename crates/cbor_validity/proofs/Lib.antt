@@ -1,0 +1,9 @@
+pub mod Steps
+pub mod Fronts
+pub mod Reading
+pub mod Deeper
+pub mod Cutting
+pub mod Inside
+pub mod OneWalk
+pub mod Keys
+pub mod Small

@@ -1,0 +1,2 @@
+pub mod OwnedParts
+pub mod Searches
