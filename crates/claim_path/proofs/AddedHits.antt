@@ -8,7 +8,7 @@ use Rattle.std.proofs.Math.Seq.{take-append_seam}
 use Rattle.std.proofs.lemmas.List.Elements.{filter-append}
 use Rattle.std.proofs.lemmas.Option.{slice_get_within, get_or_from_slice_get}
 use Rattle.claim_tree.specs.Tree.{Tree}
-use Rattle.claim_tree.specs.declared.address.Step.TheVariants as to
+use Rattle.claim_names.specs.declared.address.Step.TheVariants as to
 use Rattle.claim_path.specs.declared.path.Scalar.{Scalar}
 use Rattle.claim_path.specs.declared.path.PathStep.{PathStep}
 use Rattle.claim_path.specs.Select.{Address, Spot, spots_from, step, joined, walk}

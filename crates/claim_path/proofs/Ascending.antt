@@ -11,8 +11,8 @@ use Rattle.std.specs.Cmp.{nat_cmp_is}
 use Rattle.std.proofs.lemmas.Cmp.{nat_list_cmp_total, nat_cmp_total, tied_itself}
 use Rattle.claim_tree.specs.Order.{step_cmp, address_cmp}
 use Rattle.claim_tree.specs.Tree.{Tree, ListOf, RecordOf, element_trees, member_at}
-use Rattle.claim_tree.specs.declared.address.Step.{Step}
-use Rattle.claim_tree.specs.declared.address.Step.TheVariants as to
+use Rattle.claim_names.specs.declared.address.Step.{Step}
+use Rattle.claim_names.specs.declared.address.Step.TheVariants as to
 use Rattle.claim_path.specs.declared.path.Scalar.{Scalar}
 use Rattle.claim_path.specs.declared.path.PathStep.{PathStep}
 use Rattle.claim_path.specs.declared.path.PathStep.TheVariants.{Member, Every, Place}

@@ -13,7 +13,7 @@ use Rattle.std.specs.Option.{unwrap_or}
 use Rattle.claim_tree.specs.Tree.{Tree, ListOf, RecordOf, Text, Whole, Truth, Null, Bytes, Other, parts}
 use Rattle.claim_tree.specs.Tree.{shape_of, is_loose, part_named}
 use Rattle.claim_tree.specs.declared.shape.Shape.TheVariants as shape
-use Rattle.claim_tree.specs.declared.address.Step.TheVariants as to
+use Rattle.claim_names.specs.declared.address.Step.TheVariants as to
 use Rattle.claim_path.specs.declared.path.Scalar.{Scalar}
 use Rattle.claim_path.specs.declared.path.PathStep.{PathStep}
 use Rattle.claim_path.specs.declared.path.PathStep.TheVariants.{Member, Place}

@@ -12,8 +12,8 @@ use Rattle.std.specs.Prelude.{option_and_then}
 use Rattle.std.specs.List.{slice_get}
 use Rattle.std.specs.Option.{option_to_list}
 use Rattle.claim_tree.specs.Tree.{Tree, ListOf, RecordOf, element_trees, member_at}
-use Rattle.claim_tree.specs.declared.address.Step.{Step}
-use Rattle.claim_tree.specs.declared.address.Step.TheVariants as to
+use Rattle.claim_names.specs.declared.address.Step.{Step}
+use Rattle.claim_names.specs.declared.address.Step.TheVariants as to
 use Rattle.claim_path.specs.declared.path.PathStep.{PathStep}
 use Rattle.claim_path.specs.declared.path.PathStep.TheVariants.{Member, Every, Place}
 

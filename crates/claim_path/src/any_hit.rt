@@ -89,14 +89,7 @@ pub(crate) fn is_match<V: ClaimNode>(values: Option<&Values>, view: V) -> bool
 {
     match values {
         None => true,
-        Some(values) => {
-            for value in &values.members {
-                if is_equal(value, view) {
-                    return true;
-                }
-            }
-            false
-        }
+        Some(values) => values.members.iter().any(|value| is_equal(value, view)),
     }
 }
 

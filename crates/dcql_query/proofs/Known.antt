@@ -1,18 +1,15 @@
 -- What is known of a well-formed query, at a place in it.
 use Rattle.std.proofs.lemmas.Slice.Eq.{bytes_eq-Decides}
-use Rattle.std.proofs.Common.{◌≡◌, ℕ, zero, suc, ◌+◌, ◌<◌, Bool, true, false, not, List, [], ◌∷◌, map, length}
-use Rattle.std.proofs.Common.{Some, refl, sym, ap, ◌∙◌, arith, slice_get, slice_index, if◌then◌else◌}
+use Rattle.std.proofs.Common.{◌≡◌, ℕ, zero, suc, ◌+◌, ◌<◌, true, false, not, List, [], ◌∷◌, map, length}
+use Rattle.std.proofs.Common.{Some, sym, ap, ◌∙◌, arith, slice_get, slice_index, if◌then◌else◌}
 use Rattle.std.specs.List.{AllByRecursion, slice_index_or}
 use Rattle.std.specs.Str.{bytes_eq}
 use Rattle.base_forms.specs.Texts.{is_among, differ}
 use Rattle.claim_path.proofs.Valid.{neither}
 use Rattle.dcql_query.specs.Query.{Credential, Query, sets_in, no_options, credential_set_at, query_from}
 use Rattle.dcql_query.specs.WellFormed.{IsOption, IsCredentialSet, IsQuery}
-use Rattle.dcql_query.proofs.Readable.{both_true}
-
-not_true : (b : Bool) → not b ≡ true → b ≡ false
-not_true true e = absurd cc
-not_true false e = refl
+use Rattle.credential_query.proofs.Readable.{both_true}
+use Rattle.credential_query.proofs.WellFormed.{not_true}
 
 -- ---- ids
 

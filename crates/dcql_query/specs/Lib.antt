@@ -1,9 +1,10 @@
+pub use Rattle.dcql_rules.specs.Ids
+pub use Rattle.dcql_rules.specs.Rules
+pub use Rattle.dcql_rules.specs.AllBroken
+pub use Rattle.credential_query.specs.Credential
+pub use Rattle.credential_query.specs.Claims
 pub mod Query
-pub mod Ids
 pub mod WellFormed
-pub mod Rules
-pub mod AllBroken
 pub mod Meaning
 pub mod Refusal
-pub mod Claims
 pub mod code

@@ -1,29 +1,9 @@
 -- What a query in the Digital Credentials Query Language asks for (OpenID4VP 1.0, section 6).
-use Rattle.std.specs.Prelude.{ℕ, ◌+◌, Bool, true, false, List, [], ◌∷◌, Option, Some, None, unwrap_or}
+use Rattle.std.specs.Prelude.{ℕ, ◌+◌, Bool, false, List, [], ◌∷◌, Option, Some, None, unwrap_or}
 use Rattle.std.specs.Prelude.{if◌then◌else◌}
-use Rattle.std.specs.List.{list_any, slice_index_or}
-use Rattle.std.specs.Option.{option_map_or}
+use Rattle.std.specs.List.{slice_index_or}
 use Rattle.std.specs.Str.{bytes_eq}
-use Rattle.claim_path.specs.declared.path.PathStep.{PathStep}
-use Rattle.claim_path.specs.declared.path.Scalar.{Scalar}
-use Rattle.claim_tree.specs.declared.facts.Format.{Format}
-
--- A claim (section 6.3): a path, and the values of which its element must have one, or none where any will
--- do.
-pub record Claim : Type 0 where
-  pub path : List PathStep
-  pub values : Option (List Scalar)
-
--- A credential query (section 6.1). `format` is none where it is another than the two that are known. `kinds`
--- are the types that `meta` allows, and none where any is. A claim set is a list of places in `claims`.
-pub record Credential : Type 0 where
-  pub id : List ℕ
-  pub format : Option Format
-  pub kinds : Option (List (List ℕ))
-  pub multiple : Bool
-  pub binding : Bool
-  pub claims : List Claim
-  pub sets : List (List ℕ)
+pub use Rattle.credential_query.specs.Credential.{Credential}
 
 -- A credential set query (section 6.2). Bit i of an option says whether it names credential query i.
 pub record CredentialSet : Type 0 where
@@ -51,7 +31,3 @@ credential_set_at q i = slice_index_or (sets_in q) i no_options
 abbrev pub query_from : ℕ → List ℕ → List Credential → Option ℕ
 query_from n id [] = None
 query_from n id (q ∷ qs) = if bytes_eq id q.id then Some n else query_from (n + 1) id qs
-
--- a credential of this type may be presented: it is one of those that are allowed, or any is
-abbrev pub allows_kind : Credential → List ℕ → Bool
-allows_kind q kind = option_map_or (list_any (bytes_eq kind)) q.kinds true

@@ -1,33 +1,5 @@
-// Why the calls of this crate fail.
-use std::alloc::{AllocError, AllocFailed};
-
-/// Out of memory.
-#[derive(Clone, Copy, PartialEq, Eq, Debug, Drop)]
-pub struct NoMemory;
-
-impl From<AllocError> for NoMemory {
-    fn from(_error: AllocError) -> NoMemory {
-        NoMemory
-    }
-}
-
-impl<T: Drop> From<AllocFailed<T>> for NoMemory {
-    fn from(_error: AllocFailed<T>) -> NoMemory {
-        NoMemory
-    }
-}
-
-impl From<claim_tree::NoMemory> for NoMemory {
-    fn from(_error: claim_tree::NoMemory) -> NoMemory {
-        NoMemory
-    }
-}
-
-impl From<claim_path::NoMemory> for NoMemory {
-    fn from(_error: claim_path::NoMemory) -> NoMemory {
-        NoMemory
-    }
-}
+// Why a query is not read.
+use credential_query::NoMemory;
 
 /// Why a query was not read.
 #[derive(Clone, Copy, PartialEq, Eq, Debug, Drop)]

@@ -1,54 +1,10 @@
 // What a query asks for.
-ghost use Rattle.std.specs.Prelude.{◌≡◌, ◌<◌, ◌≤◌, ◌^◌, true, length, slice_get, slice_index, Some};
-ghost use Rattle.std.specs.List.{list_any};
-ghost use Rattle.std.specs.Str.{bytes_eq};
-ghost use Rattle.dcql_query.specs.Ids.{is_id};
-ghost use Rattle.dcql_query.specs.Query.{query_from, sets_in, credential_set_at, allows_kind};
-ghost use Rattle.dcql_query.specs.WellFormed.{IsCredential, IsQuery};
+ghost use Rattle.std.specs.Prelude.{◌≡◌, ◌<◌, ◌≤◌, ◌^◌, length, slice_get, slice_index, Some};
+ghost use Rattle.dcql_query.specs.Query.{query_from, sets_in, credential_set_at};
+ghost use Rattle.dcql_query.specs.WellFormed.{IsQuery};
 
-use claim_path::{Path, Values};
-use claim_tree::{Format, Name};
+use credential_query::CredentialQuery;
 use std::marker::Model;
-
-/// A claim that a query asks for: a path, and the values of which its element must have one.
-#[derive(Drop)]
-pub struct Claim {
-    pub(crate) path: Path,
-    pub(crate) values: Option<Values>,
-}
-
-impl Model for Claim {
-    ghost use Rattle.dcql_query.specs.Query.{Claim as Meant};
-
-    ghost Value = { Meant };
-
-    ghost view = { λ c. record { path = c.path; values = c.values } };
-}
-
-/// What a query asks of one credential.
-#[derive(Drop)]
-pub struct CredentialQuery {
-    pub(crate) id: Name,
-    pub(crate) format: Option<Format>,
-    pub(crate) kinds: Option<Vec<Name>>,
-    pub(crate) multiple: bool,
-    pub(crate) binding: bool,
-    pub(crate) claims: Vec<Claim>,
-    pub(crate) sets: Vec<Vec<usize>>,
-}
-
-impl Model for CredentialQuery {
-    ghost use Rattle.dcql_query.specs.Query.{Credential};
-
-    ghost Value = { Credential };
-
-    ghost use Rattle.dcql_query.specs.WellFormed.{IsCredential};
-    ghost use Rattle.dcql_query.specs.code.Stored.{credential_in};
-
-    ghost view = { credential_in };
-
-    ghost invariant = { λ q. IsCredential (credential_in q) };
-}
 
 /// A set of credential queries that belong together, as options of which one is to be answered.
 /// Bit i of an option says whether it names credential query i.
@@ -179,73 +135,9 @@ fn place_in(credentials: &[CredentialQuery], id: &str) -> Option<usize>
     ensures { result ≡ query_from 0 id.now credentials.now }
 {
     for place in 0..credentials.len() {
-        if credentials[place].is_named(id) {
+        if id == credentials[place].id() {
             return Some(place);
         }
     }
     None
-}
-
-impl CredentialQuery {
-    /// Its id, which no other credential query of the query has.
-    pub fn id(&self) -> &str
-        ensures id { result.now ≡ self.now.id }
-        ensures form { is_id result.now ≡ true }
-    {
-        self.id.as_str()
-    }
-
-    /// The format that is asked for, or none where it is another than those that are known.
-    pub fn format(&self) -> Option<Format>
-        ensures { result ≡ self.now.format }
-    {
-        self.format
-    }
-
-    /// Whether a credential of this type may be presented for it.
-    pub fn allows_kind(&self, kind: &str) -> bool
-        ensures { result ≡ allows_kind self.now kind.now }
-    {
-        match &self.kinds {
-            Some(kinds) => is_among(kinds, kind),
-            None => true,
-        }
-    }
-
-    /// Whether several credentials may be presented for it.
-    pub fn multiple(&self) -> bool
-        ensures { result ≡ self.now.multiple }
-    {
-        self.multiple
-    }
-
-    /// Whether a credential must be bound to its holder's key.
-    pub fn binding(&self) -> bool
-        ensures { result ≡ self.now.binding }
-    {
-        self.binding
-    }
-
-    /// How many claim sets there are, of which one is to be met: 1 to 32. Every credential query is well
-    /// formed.
-    pub fn set_count(&self) -> usize
-        ensures count { result ≡ length self.now.sets }
-        ensures some { 0 < result }
-        ensures few { result ≤ 32 }
-        ensures well_formed { IsCredential self.now }
-    {
-        self.sets.len()
-    }
-
-    fn is_named(&self, id: &str) -> bool
-        ensures { result ≡ bytes_eq id.now self.now.id }
-    {
-        id == self.id.as_str()
-    }
-}
-
-fn is_among(names: &[Name], name: &str) -> bool
-    ensures { result ≡ list_any (bytes_eq name.now) names.now }
-{
-    names.iter().any(|other| name == other.as_str())
 }

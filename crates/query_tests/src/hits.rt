@@ -1,12 +1,11 @@
 // What paths hit in trees.
 ghost use Rattle.std.specs.Prelude.{◌≡◌, true, IfOk};
 ghost use Rattle.claim_tree.specs.Tree.{is_claim};
-ghost use Rattle.claim_tree.specs.Owned.{tree_of};
+ghost use Rattle.owned_tree.specs.Owned.{tree_of};
 
 use claim_path::{Path, Values, has_hit, hits};
-use claim_tree::{
-    Address, ClaimView, NoMemory, OwnedElement, OwnedNode, OwnedTree, PlainTree, Step,
-};
+use claim_tree::{Address, ClaimView, NoMemory, PlainTree, Step};
+use owned_tree::{OwnedElement, OwnedNode, OwnedTree};
 use serde_json::Value;
 use std::alloc::Global;
 use std::fmt::Write;

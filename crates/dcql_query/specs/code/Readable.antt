@@ -1,23 +1,8 @@
--- What the code has looked at before it reads a part of a query.
-use Rattle.std.specs.Prelude.{Bool, not, ◌&&◌, is_none, List, codes}
+-- What the code has looked at before it reads the credential queries.
+use Rattle.std.specs.Prelude.{Bool, List}
 use Rattle.std.specs.List.{list_all}
 use Rattle.serde_json.specs.Data.{Data}
-use Rattle.serde_json.specs.Find.{get}
-use Rattle.json_forms.specs.Look.{is_wrong}
-use Rattle.dcql_query.specs.Ids.{has_id}
-use Rattle.dcql_query.specs.Rules.{is_wrong_path, are_right_values, credential_rule}
-
--- a claim has a path, and right values if any
-abbrev pub is_readable_claim : Data → Bool
-is_readable_claim c = not (is_wrong_path (get (codes "path") c))
-    && not (is_wrong are_right_values (get (codes "values") c))
-
-abbrev pub are_readable_claims : List Data → Bool
-are_readable_claims cs = list_all is_readable_claim cs
-
--- a credential query has an id and breaks no rule
-unfoldable pub is_readable_credential : Data → Bool
-is_readable_credential q = has_id q && is_none (credential_rule q)
+use Rattle.credential_query.specs.Readable.{is_readable_credential}
 
 abbrev pub are_readable_credentials : List Data → Bool
 are_readable_credentials qs = list_all is_readable_credential qs

@@ -2,7 +2,7 @@ use Rattle.std.proofs.Common.{◌≡◌, ◌≤◌, ◌+◌, ◌-◌, [], ◌∷
 use Rattle.std.proofs.Common.{option_map, refl, sym, ap, ◌∙◌, subst, append-nil, arith}
 use Rattle.std.specs.Option.{option_copied, option_to_list}
 use Rattle.claim_tree.specs.Tree.{parts, part_named}
-use Rattle.claim_tree.specs.declared.address.Step.TheVariants as to
+use Rattle.claim_names.specs.declared.address.Step.TheVariants as to
 use Rattle.claim_path.specs.declared.path.PathStep.TheVariants.{Member, Place}
 use Rattle.claim_path.specs.Select.{walk, step}
 use Rattle.claim_path.specs.code.AddedHits.{AddsHits}

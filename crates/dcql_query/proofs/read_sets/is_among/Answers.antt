@@ -1,9 +1,9 @@
 use Rattle.std.proofs.Common.{rules, tests, sym, ◌∙◌, false}
 use Rattle.std.proofs.lemmas.Iterator.{YieldsList-from_slice}
 use Rattle.std.proofs.lemmas.Iterator.Search.{any_from_yields_List}
-use Rattle.dcql_query.proofs.Lists.{list_any-map}
+use Rattle.base_forms.proofs.Lists.{list_any-map}
 use Rattle.serde_json.specs.View.{view}
-use Rattle.dcql_query.specs.Ids.{is_named}
+use Rattle.dcql_rules.specs.Ids.{is_named}
 use Rattle.std.specs.Option.{option_map_or}
 use Rattle.serde_json.specs.Find.{as_str}
 use Rattle.dcql_query.proofs.read_sets.is_among.Goals as goal

@@ -1,10 +1,10 @@
 use Rattle.std.proofs.Common.{◌≡◌, true, sym, subst, rules}
 use Rattle.std.specs.Prelude.{None}
 use Rattle.serde_json.specs.View.{view}
-use Rattle.dcql_query.specs.Rules.{query_rule}
+use Rattle.dcql_rules.specs.Rules.{query_rule}
 use Rattle.dcql_query.specs.WellFormed.{IsQuery}
 use Rattle.dcql_query.specs.code.Readable.{are_readable_credentials}
-use Rattle.dcql_query.proofs.Least.{unbroken, least_broken, few_values}
+use Rattle.dcql_rules.proofs.Least.{unbroken, least_broken, few_values}
 use Rattle.dcql_query.proofs.Readable.{queries_readable}
 use Rattle.dcql_query.proofs.WellFormed.{query_well_formed}
 use Rattle.dcql_query.proofs.query.Query.from_json.Goals as goal

@@ -1,5 +1,0 @@
-use Rattle.std.proofs.Common.{refl}
-use Rattle.dcql_query.proofs.credential_rules.are_too_many_sets.Goals as goal
-
-pub returns : goal.returns
-returns c = refl

@@ -1,0 +1,4 @@
+pub mod Flags
+pub mod Ids
+pub mod Rules
+pub mod AllBroken
