@@ -15,10 +15,10 @@ use Rattle.claim_tree.specs.Plain.{plain, plain_elements, plain_members as plain
 use Rattle.claim_tree.specs.Parts.{Part, Named, elements_of, members_of}
 use Rattle.sdjwt_disclosures.specs.PutMember.{put_member}
 use Rattle.base_forms.specs.Texts.{Utf8, is_among}
-use Rattle.sdjwt_disclosures.specs.Disclosures.{Disclosed, found}
-use Rattle.sdjwt_disclosures.specs.DigestSites.{sd, in_object, in_list, placeholder, is_placeholder}
-use Rattle.sdjwt_disclosures.specs.DigestSites.{own_digests}
-use Rattle.sdjwt_disclosures.specs.DigestSites.{sites_in, sites_in_items, sites_in_members}
+use Rattle.sdjwt_digests.specs.Disclosures.{Disclosed, found}
+use Rattle.sdjwt_digests.specs.DigestSites.{sd, in_object, in_list, placeholder, is_placeholder}
+use Rattle.sdjwt_digests.specs.DigestSites.{own_digests}
+use Rattle.sdjwt_digests.specs.DigestSites.{sites_in, sites_in_items, sites_in_members}
 use Rattle.sdjwt_disclosures.specs.DisclosureRules.{is_mismatch}
 use Rattle.sdjwt_disclosures.specs.MemberNames.{disclosed_names, gets_clash, has_clash, items_have_clash}
 use Rattle.sdjwt_disclosures.specs.MemberNames.{members_have_clash}

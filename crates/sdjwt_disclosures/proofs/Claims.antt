@@ -1,7 +1,7 @@
 -- What a credential spells is a claim tree: names ascend, and a list with a held element is loose.
 use Rattle.std.proofs.Common.{◌≡◌, ℕ, zero, suc, Bool, true, false, not, ◌||◌, cond, List, [], ◌∷◌, ◌++◌}
 use Rattle.std.proofs.Common.{Option, Some, None, option_map, option_and_then, refl, ap, ◌∙◌, subst}
-use Rattle.std.specs.Prelude.{⊤, IfSome}
+use Rattle.std.specs.Prelude.{IfSome}
 use Rattle.std.specs.Option.{is_some}
 use Rattle.std.specs.List.{list_all, list_any}
 use Rattle.std.specs.Str.{bytes_eq}
@@ -14,10 +14,11 @@ use Rattle.claim_tree.specs.Tree.{Name, Tree, ListOf, RecordOf, element_marks, m
 use Rattle.claim_tree.specs.Tree.{are_claims, hold_claims}
 use Rattle.claim_tree.specs.Plain.{plain, plain_elements, plain_members as plain_fields}
 use Rattle.base_forms.specs.Texts.{Utf8, is_among}
-use Rattle.sdjwt_disclosures.specs.Disclosures.{Disclosed, found}
-use Rattle.sdjwt_disclosures.specs.DigestSites.{placeholder, own_digests}
+use Rattle.sdjwt_digests.specs.Disclosures.{Disclosed, found}
+use Rattle.sdjwt_digests.specs.DigestSites.{placeholder, own_digests}
+pub use Rattle.sdjwt_digests.proofs.ValueClaims.{IsSound, AreSound}
 use Rattle.sdjwt_disclosures.proofs.PutMembers.{ascend-put, hold-put}
-use Rattle.claim_tree.specs.Search.{names_of, below}
+use Rattle.claim_tree.specs.Ascending.{names_of, below}
 use Rattle.claim_tree.specs.Parts.{Part, Named, elements_of, members_of}
 use Rattle.sdjwt_disclosures.specs.PutMember.{put_member}
 use Rattle.sdjwt_disclosures.specs.DisclosedTree.{has_placeholder, disclosed_element, spelled_element}
@@ -40,13 +41,6 @@ some_and_then P Q h k (Some a) x = k a x
 
 abbrev IsGood : Tree → Type 0
 IsGood t = is_claim t ≡ true
-
-abbrev pub IsSound : Data → Type 0
-IsSound d = is_claim (plain d) ≡ true
-
-abbrev pub AreSound : List Disclosed → Type 0
-AreSound [] = ⊤
-AreSound (l ∷ ls) = IsSound l.value × AreSound ls
 
 abbrev Spells : (Data → Option Tree) → Type 0
 Spells inner = (d : Data) → IsSound d → IfSome (inner d) IsGood

@@ -7,8 +7,8 @@ use Rattle.claim_tree.specs.Tree.{Tree, ListOf, RecordOf}
 use Rattle.claim_tree.specs.Parts.{Part, Named, elements_of, members_of}
 use Rattle.sdjwt_disclosures.specs.PutMember.{put_member}
 use Rattle.base_forms.specs.Texts.{Utf8}
-use Rattle.sdjwt_disclosures.specs.Disclosures.{Disclosed, found}
-use Rattle.sdjwt_disclosures.specs.DigestSites.{placeholder, own_digests}
+use Rattle.sdjwt_digests.specs.Disclosures.{Disclosed, found}
+use Rattle.sdjwt_digests.specs.DigestSites.{placeholder, own_digests}
 use Rattle.sdjwt_disclosures.specs.DisclosedTree.{has_placeholder, left_out, disclosed_element}
 use Rattle.sdjwt_disclosures.specs.DisclosedTree.{spelled_element}
 use Rattle.sdjwt_disclosures.specs.DisclosedTree.{spelled_elements, plain_members, with_disclosure}

@@ -6,7 +6,7 @@ use Rattle.std.specs.Str.{bytes_eq}
 use Rattle.std.proofs.lemmas.Bool.{cases_Bool, and_parts, and_from, or_parts, not_from_false}
 use Rattle.std.proofs.lemmas.Slice.Eq.{bytes_eq-Decides}
 use Rattle.base_forms.specs.Texts.{Utf8, is_among, differ}
-use Rattle.sdjwt_disclosures.specs.Disclosures.{Disclosed}
+use Rattle.sdjwt_digests.specs.Disclosures.{Disclosed}
 use Rattle.sdjwt_disclosures.specs.Spelling.{times}
 use Rattle.base_forms.proofs.Differing.{bytes_eq-flip}
 

@@ -14,8 +14,8 @@ use Rattle.serde_json.specs.Find.{as_str, get_member}
 use Rattle.claim_tree.specs.Tree.{Name, ascend, member_names}
 use Rattle.claim_tree.specs.Plain.{plain_members as plain_fields}
 use Rattle.base_forms.specs.Texts.{Utf8, is_among}
-use Rattle.sdjwt_disclosures.specs.DigestSites.{sd, Site, in_object, listed, own_digests, sites_in}
-use Rattle.sdjwt_disclosures.specs.DigestSites.{sites_in_members}
+use Rattle.sdjwt_digests.specs.DigestSites.{sd, Site, in_object, listed, own_digests, sites_in}
+use Rattle.sdjwt_digests.specs.DigestSites.{sites_in_members}
 use Rattle.sdjwt_disclosures.specs.DisclosedTree.{sd_alg, left_out}
 use Rattle.base_forms.proofs.Differing.{same_from, bytes_eq-flip}
 

@@ -7,10 +7,10 @@ use Rattle.std.proofs.lemmas.Bool.{cases_Bool}
 use Rattle.std.proofs.lemmas.List.{map-append}
 use Rattle.serde_json.specs.Data.{Members as Fields}
 use Rattle.base_forms.specs.Texts.{Utf8, is_among}
-use Rattle.sdjwt_disclosures.specs.Disclosures.{Disclosed, found}
-use Rattle.sdjwt_disclosures.specs.DigestSites.{sd, Site, in_object, in_list, digest_at, own_digests}
-use Rattle.sdjwt_disclosures.specs.DigestSites.{sites_in}
-use Rattle.sdjwt_disclosures.specs.DigestSites.{sites_in_members}
+use Rattle.sdjwt_digests.specs.Disclosures.{Disclosed, found}
+use Rattle.sdjwt_digests.specs.DigestSites.{sd, Site, in_object, in_list, digest_at, own_digests}
+use Rattle.sdjwt_digests.specs.DigestSites.{sites_in}
+use Rattle.sdjwt_digests.specs.DigestSites.{sites_in_members}
 use Rattle.sdjwt_disclosures.specs.Reachable.{reached, reached_by}
 use Rattle.sdjwt_disclosures.specs.DisclosureRules.{is_mismatch}
 use Rattle.sdjwt_disclosures.specs.MemberNames.{has_clash}

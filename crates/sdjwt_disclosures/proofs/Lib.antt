@@ -2,11 +2,8 @@ pub mod PutMembers
 pub mod SpelledValues
 pub mod Orders
 pub mod MemberMaps
-pub mod FirstIndexes
 pub mod ReachedDigests
 pub mod Claims
-pub mod LastElements
-pub mod ValueClaims
 pub mod ProcessingSteps
 pub mod Counting
 pub mod Reached
@@ -16,3 +13,4 @@ pub mod Walks
 pub mod Computed
 pub mod Built
 pub mod Uses
+pub mod ListedPlaceholders

@@ -14,9 +14,9 @@ use Rattle.std.specs.Ordering.{ordering_reverse}
 use Rattle.claim_tree.specs.Tree.{Name, Tree, ascend}
 use Rattle.claim_tree.specs.Parts.{Named}
 use Rattle.sdjwt_disclosures.specs.PutMember.{put_member}
-use Rattle.claim_tree.specs.Owned.{tree_of}
-use Rattle.claim_tree.specs.Search.{names_of, below}
-use Rattle.claim_tree.specs.declared.owned.OwnedElement.{OwnedElement}
+use Rattle.owned_tree.specs.Owned.{tree_of}
+use Rattle.claim_tree.specs.Ascending.{names_of, below}
+use Rattle.owned_tree.specs.declared.owned.OwnedElement.{OwnedElement}
 use Rattle.claim_tree.proofs.Ascending.{all_below, is_less}
 use Rattle.sdjwt_disclosures.specs.code.MemberMap.{members_in}
 

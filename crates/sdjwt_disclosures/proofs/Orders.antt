@@ -16,9 +16,9 @@ use Rattle.serde_json.proofs.Views.{Entry}
 use Rattle.claim_tree.specs.Tree.{Name, Tree, member_names, ascend}
 use Rattle.claim_tree.specs.Plain.{plain_members as plain_fields}
 use Rattle.claim_tree.specs.Parts.{Named}
-use Rattle.claim_tree.specs.Search.{names_of, below}
+use Rattle.claim_tree.specs.Ascending.{names_of, below}
 use Rattle.base_forms.specs.Texts.{is_among}
-use Rattle.claim_tree.specs.Prefixed.{prefixed}
+use Rattle.owned_tree.specs.Prefixed.{prefixed}
 use Rattle.sdjwt_disclosures.specs.DisclosedTree.{left_out, plain_members}
 
 abbrev field_names : Fields → List Name

@@ -5,7 +5,8 @@ use Rattle.std.specs.List.{list_all}
 use Rattle.serde_json.specs.Data.{Data}
 use Rattle.base_forms.specs.Rules.{rule, first}
 use Rattle.base_forms.specs.Texts.{differ}
-use Rattle.sdjwt_disclosures.specs.Disclosures.{Disclosed}
+use Rattle.sdjwt_digests.specs.Disclosures.{Disclosed}
+use Rattle.sdjwt_digests.specs.DigestSites.{digest_at, all_sites}
 use Rattle.sdjwt_disclosures.specs.Reachable.{are_reached}
 use Rattle.std.specs.Prelude.{IfOk, Result, Ok, Err}
 use Rattle.sdjwt_disclosures.specs.DisclosureRules.{reserved_names_rule, double_rule, reach_rule, depth_rule}
@@ -16,9 +17,9 @@ use Rattle.sdjwt_disclosures.specs.declared.processing.Processed.{Processed}
 use Rattle.sdjwt_disclosures.specs.declared.processing.Processed.TheVariants.{Tree, Broken}
 use Rattle.claim_tree.specs.Parts.{Named}
 use Rattle.sdjwt_disclosures.specs.DisclosedTree.{spelled_payload}
-use Rattle.sdjwt_disclosures.specs.Disclosure.{said}
-use Rattle.sdjwt_disclosures.specs.code.Indexes.{own_digest}
-use Rattle.sdjwt_disclosures.specs.declared.disclosure.Disclosure.{Disclosure}
+use Rattle.sdjwt_digests.specs.Disclosure.{said}
+use Rattle.sdjwt_digests.specs.code.Indexes.{own_digest}
+use Rattle.sdjwt_digests.specs.declared.disclosure.Disclosure.{Disclosure}
 
 pub first_here : (a : Option ℕ) (rest : List (Option ℕ)) (n : ℕ) → a ≡ Some n → first (a ∷ rest) ≡ Some n
 first_here a rest n e = ap (λ x. first (x ∷ rest)) e
@@ -33,6 +34,16 @@ last_here (Some n) = refl
 pub digests_said : (ds : List Disclosure) → map (λ l. l.digest) (map said ds) ≡ map own_digest ds
 digests_said [] = refl
 digests_said (d ∷ ds) = ap (λ xs. own_digest d ∷ xs) (digests_said ds)
+
+pub not_apart : (payload : Data) (ls : List Disclosed) → differ (map digest_at (all_sites payload ls)) ≡ false
+    → double_rule payload ls ≡ Some 9
+unfolding double_rule rule
+not_apart payload ls e = rw e refl
+
+pub all_apart : (payload : Data) (ls : List Disclosed) → differ (map digest_at (all_sites payload ls)) ≡ true
+    → double_rule payload ls ≡ None
+unfolding double_rule rule
+all_apart payload ls e = rw e refl
 
 pub not_differ : (payload : Data) (ls : List Disclosed) → differ (map (λ l. l.digest) ls) ≡ false
     → reach_rule payload ls ≡ Some 10

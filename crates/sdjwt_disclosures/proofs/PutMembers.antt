@@ -8,7 +8,7 @@ use Rattle.std.proofs.lemmas.Bool.{and_parts, and_from}
 use Rattle.claim_tree.specs.Tree.{Name, ascend, is_claim, hold_claims}
 use Rattle.claim_tree.specs.Parts.{Named, members_of}
 use Rattle.sdjwt_disclosures.specs.PutMember.{put_member}
-use Rattle.claim_tree.specs.Search.{names_of, below}
+use Rattle.claim_tree.specs.Ascending.{names_of, below}
 use Rattle.claim_tree.proofs.Ascending.{all_below, above}
 
 -- what is true of the name and of the names is true of them after it is put in

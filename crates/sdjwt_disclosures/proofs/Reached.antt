@@ -6,8 +6,8 @@ use Rattle.std.proofs.lemmas.Bool.{cases_Bool}
 use Rattle.std.proofs.lemmas.List.{map-append}
 use Rattle.serde_json.specs.Data.{Data}
 use Rattle.base_forms.specs.Texts.{Utf8, differ}
-use Rattle.sdjwt_disclosures.specs.Disclosures.{Disclosed, found}
-use Rattle.sdjwt_disclosures.specs.DigestSites.{digest_at, sites_in, digests_in, values_sites, all_sites}
+use Rattle.sdjwt_digests.specs.Disclosures.{Disclosed, found}
+use Rattle.sdjwt_digests.specs.DigestSites.{digest_at, sites_in, digests_in, values_sites, all_sites}
 use Rattle.sdjwt_disclosures.specs.Reachable.{reached, reached_by}
 use Rattle.sdjwt_disclosures.specs.Spelling.{times}
 use Rattle.sdjwt_disclosures.proofs.Counting.{one_true, one_false, times-append, differ_times}

@@ -11,12 +11,12 @@ use Rattle.serde_json.specs.View.{view, members_view}
 use Rattle.serde_json.specs.declared.value.Value.{Value, Object}
 use Rattle.serde_json.proofs.Views.{view-Object}
 use Rattle.base_forms.specs.Texts.{Utf8, differ}
-use Rattle.sdjwt_disclosures.specs.Disclosures.{Disclosed}
-use Rattle.sdjwt_disclosures.specs.code.Disclosures.{site_of}
-use Rattle.sdjwt_disclosures.specs.DigestSites.{digest_at, digests_in, sites_in, own_digests}
+use Rattle.sdjwt_digests.specs.Disclosures.{Disclosed}
+use Rattle.sdjwt_digests.specs.code.Disclosures.{site_of}
+use Rattle.sdjwt_digests.specs.DigestSites.{digest_at, digests_in, sites_in, own_digests}
 use Rattle.sdjwt_disclosures.specs.Reachable.{reached, reached_by}
 use Rattle.sdjwt_disclosures.specs.MemberNames.{disclosed_names, gets_clash, has_clash, members_have_clash}
-use Rattle.sdjwt_disclosures.specs.declared.digest_sites.Site.{Site}
+use Rattle.sdjwt_digests.specs.declared.digest_sites.Site.{Site}
 
 one_more : (n m : ℕ) (ls : List Disclosed) (d : Data) → n ≡ suc m
     → reached n ls d ≡ digests_in d ++ reached_by (reached m ls) ls (digests_in d)

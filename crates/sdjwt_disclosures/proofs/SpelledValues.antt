@@ -9,16 +9,16 @@ use Rattle.serde_json.specs.declared.value.Value.{Value, Array, Object}
 use Rattle.serde_json.proofs.Views.{view-Array, view-Object}
 use Rattle.claim_tree.specs.Tree.{Tree, ListOf}
 use Rattle.base_forms.specs.Texts.{Utf8, is_among}
-use Rattle.sdjwt_disclosures.specs.Disclosures.{Disclosed}
-use Rattle.claim_tree.specs.Owned.{tree_of, part_of}
-use Rattle.claim_tree.specs.Prefixed.{prefixed}
+use Rattle.sdjwt_digests.specs.Disclosures.{Disclosed}
+use Rattle.owned_tree.specs.Owned.{tree_of, part_of}
+use Rattle.owned_tree.specs.Prefixed.{prefixed}
 use Rattle.claim_tree.specs.Parts.{Named, elements_of}
 use Rattle.sdjwt_disclosures.specs.DisclosedTree.{has_placeholder, left_out, spelled, spelled_list}
 use Rattle.sdjwt_disclosures.specs.DisclosedTree.{spelled_record}
 use Rattle.sdjwt_disclosures.specs.DisclosedTree.{spelled_elements, plain_members}
-use Rattle.claim_tree.specs.declared.owned.OwnedElement.{OwnedElement}
-use Rattle.claim_tree.specs.declared.owned.OwnedTree.{List as OwnedList}
-use Rattle.claim_tree.proofs.OwnedParts.{tree_of-List}
+use Rattle.owned_tree.specs.declared.owned.OwnedElement.{OwnedElement}
+use Rattle.owned_tree.specs.declared.owned.OwnedTree.{List as OwnedList}
+use Rattle.owned_tree.proofs.OwnedParts.{tree_of-List}
 
 one_more_list : (n m : ℕ) (ls : List Disclosed) (ds : Items) → n ≡ suc m
     → spelled n ls (array ds) ≡ spelled_list (spelled m ls) ls ds

@@ -7,8 +7,8 @@ use Rattle.std.proofs.lemmas.Bool.{cases_Bool, and_parts, and_from, or_parts, or
 use Rattle.serde_json.specs.Data.{Data, object, Members as Fields}
 use Rattle.claim_tree.specs.Parts.{Named}
 use Rattle.base_forms.specs.Texts.{Utf8, is_among, differ}
-use Rattle.sdjwt_disclosures.specs.Disclosures.{Disclosed, found}
-use Rattle.sdjwt_disclosures.specs.DigestSites.{Site, digest_at, sites_in, values_sites, all_sites}
+use Rattle.sdjwt_digests.specs.Disclosures.{Disclosed, found}
+use Rattle.sdjwt_digests.specs.DigestSites.{Site, digest_at, sites_in, values_sites, all_sites}
 use Rattle.sdjwt_disclosures.specs.Reachable.{reached, are_reached, have_own_sites}
 use Rattle.sdjwt_disclosures.specs.DisclosureRules.{is_mismatch}
 use Rattle.sdjwt_disclosures.specs.MemberNames.{has_clash}

@@ -10,8 +10,8 @@ use Rattle.claim_tree.specs.Plain.{plain_number}
 use Rattle.claim_tree.specs.Parts.{Part, Named, elements_of, members_of}
 use Rattle.sdjwt_disclosures.specs.PutMember.{put_member}
 use Rattle.base_forms.specs.Texts.{Utf8, is_among}
-use Rattle.sdjwt_disclosures.specs.Disclosures.{Disclosed, found}
-use Rattle.sdjwt_disclosures.specs.DigestSites.{sd, placeholder, is_placeholder, own_digests}
+use Rattle.sdjwt_digests.specs.Disclosures.{Disclosed, found}
+use Rattle.sdjwt_digests.specs.DigestSites.{sd, placeholder, is_placeholder, own_digests}
 
 -- ---- what a list spells
 

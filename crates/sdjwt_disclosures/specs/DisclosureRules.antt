@@ -1,25 +1,17 @@
 -- The rules on the disclosures of an SD-JWT and the sites of their digests (RFC 9901, section 7.1, steps 2 to
 -- 5).
-use Rattle.std.specs.Prelude.{ℕ, Bool, true, false, not, ◌&&◌, List, [], ◌∷◌, map, Option, Some, None}
+use Rattle.std.specs.Prelude.{ℕ, Bool, true, false, not, List, [], ◌∷◌, map, Option, Some, None}
 use Rattle.std.specs.Prelude.{is_none}
-use Rattle.std.specs.List.{list_any, list_all}
+use Rattle.std.specs.List.{list_any}
 use Rattle.serde_json.specs.Data.{Data}
 use Rattle.base_forms.specs.Rules.{rule, first}
 use Rattle.base_forms.specs.Texts.{is_among, differ}
-use Rattle.sdjwt_disclosures.specs.Disclosures.{Disclosed, found}
-use Rattle.sdjwt_disclosures.specs.DigestSites.{Site, in_object, in_list, digest_at, all_sites}
-use Rattle.sdjwt_disclosures.specs.ReservedNames.{is_sound, has_reserved_name}
+use Rattle.sdjwt_digests.specs.Disclosures.{Disclosed, found}
+use Rattle.sdjwt_digests.specs.DigestSites.{Site, in_object, in_list, digest_at, all_sites}
+pub use Rattle.sdjwt_digests.specs.ReservedNames.{reserved_names_rule}
 use Rattle.sdjwt_disclosures.specs.Reachable.{have_own_sites}
 use Rattle.sdjwt_disclosures.specs.MemberNames.{any_clash, top_names, plain_only}
 use Rattle.sdjwt_disclosures.specs.DisclosedTree.{spelled_payload}
-
--- rules 7 and 8: a disclosure has a reserved name; a reserved name stands where it may not, or with another
--- value
-unfoldable pub reserved_names_rule : Data → List Disclosed → Option ℕ
-reserved_names_rule payload ls = first
-    (rule 7 (list_any has_reserved_name ls)
-    ∷ rule 8 (not (is_sound payload && list_all (λ l. is_sound l.value) ls))
-    ∷ [])
 
 -- rule 9: two sites hold equal digests
 unfoldable pub double_rule : Data → List Disclosed → Option ℕ

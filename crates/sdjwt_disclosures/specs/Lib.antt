@@ -1,12 +1,8 @@
-pub mod Disclosures
-pub mod DigestSites
-pub mod ReservedNames
 pub mod Reachable
 pub mod MemberNames
 pub mod PutMember
 pub mod DisclosedTree
 pub mod DisclosureRules
 pub mod Spelling
-pub mod Disclosure
 pub mod Processed
 pub mod code

@@ -7,8 +7,8 @@ use Rattle.std.specs.Str.{bytes_eq}
 use Rattle.serde_json.specs.Find.{as_object, get_member}
 use Rattle.serde_json.specs.Data.{Data, array, object, Items, no_items, item, Members, no_members, member}
 use Rattle.base_forms.specs.Texts.{Utf8, differ}
-use Rattle.sdjwt_disclosures.specs.Disclosures.{Disclosed, found}
-use Rattle.sdjwt_disclosures.specs.DigestSites.{sd, is_placeholder, own_digests}
+use Rattle.sdjwt_digests.specs.Disclosures.{Disclosed, found}
+use Rattle.sdjwt_digests.specs.DigestSites.{sd, is_placeholder, own_digests}
 use Rattle.sdjwt_disclosures.specs.DisclosedTree.{sd_alg}
 
 -- the names of the disclosures that have these digests

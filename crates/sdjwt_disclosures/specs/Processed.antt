@@ -3,8 +3,8 @@ use Rattle.std.specs.Prelude.{◌≡◌, List, map, Some, None}
 use Rattle.serde_json.specs.Data.{Data}
 use Rattle.sdjwt_disclosures.specs.declared.processing.Processed.{Processed}
 use Rattle.sdjwt_disclosures.specs.declared.processing.Processed.TheVariants.{Tree, Broken}
-use Rattle.sdjwt_disclosures.specs.Disclosures.{Disclosed}
-use Rattle.claim_tree.specs.Owned.{named_of}
+use Rattle.sdjwt_digests.specs.Disclosures.{Disclosed}
+use Rattle.owned_tree.specs.Owned.{named_of}
 use Rattle.sdjwt_disclosures.specs.DisclosureRules.{processing_rule}
 use Rattle.sdjwt_disclosures.specs.DisclosedTree.{spelled_payload}
 

@@ -3,8 +3,8 @@ use Rattle.std.specs.Prelude.{ℕ, zero, suc, Bool, ◌&&◌, List, [], ◌∷�
 use Rattle.std.specs.List.{list_all}
 use Rattle.serde_json.specs.Data.{Data}
 use Rattle.base_forms.specs.Texts.{Utf8, is_among, differ}
-use Rattle.sdjwt_disclosures.specs.Disclosures.{Disclosed, found}
-use Rattle.sdjwt_disclosures.specs.DigestSites.{digests_in}
+use Rattle.sdjwt_digests.specs.Disclosures.{Disclosed, found}
+use Rattle.sdjwt_digests.specs.DigestSites.{digests_in}
 
 -- what `inner` gives for the values of the disclosures that have these digests
 abbrev pub reached_by : (Data → List Utf8) → List Disclosed → List Utf8 → List Utf8

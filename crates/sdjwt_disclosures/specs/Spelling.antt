@@ -12,8 +12,8 @@ use Rattle.claim_tree.specs.Plain.{plain_number}
 use Rattle.claim_tree.specs.Parts.{Part, Named, elements_of, members_of}
 use Rattle.base_forms.specs.Texts.{Utf8, is_among, differ}
 use Rattle.sdjwt_disclosures.specs.PutMember.{put_member}
-use Rattle.sdjwt_disclosures.specs.Disclosures.{Disclosed, found}
-use Rattle.sdjwt_disclosures.specs.DigestSites.{placeholder, own_digests}
+use Rattle.sdjwt_digests.specs.Disclosures.{Disclosed, found}
+use Rattle.sdjwt_digests.specs.DigestSites.{placeholder, own_digests}
 use Rattle.sdjwt_disclosures.specs.MemberNames.{gets_clash, plain_only}
 use Rattle.sdjwt_disclosures.specs.DisclosedTree.{has_placeholder, left_out}
 

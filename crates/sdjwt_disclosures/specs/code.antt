@@ -1,6 +1,4 @@
 -- What ties the code to the definitions: what its own types mean, and what its steps come to.
-pub mod Indexes
-pub mod Disclosures
 pub mod SpelledItem
 pub mod MemberMap
 pub mod Processed

@@ -5,23 +5,24 @@ ghost use Rattle.claim_tree.specs.Tree.{ascend};
 ghost use Rattle.serde_json.specs.View.{view, items_view, members_view, number_view};
 ghost use Rattle.claim_tree.specs.Plain.{plain_number};
 ghost use Rattle.base_forms.specs.Texts.{is_among};
-ghost use Rattle.sdjwt_disclosures.specs.Disclosures.{found};
-ghost use Rattle.sdjwt_disclosures.specs.code.Disclosures.{all_said};
-ghost use Rattle.sdjwt_disclosures.specs.Disclosure.{said};
-ghost use Rattle.claim_tree.specs.Owned.{tree_of, part_of, named_of};
-ghost use Rattle.claim_tree.specs.Search.{names_of};
+ghost use Rattle.sdjwt_digests.specs.Disclosures.{found};
+ghost use Rattle.sdjwt_digests.specs.code.Disclosures.{all_said};
+ghost use Rattle.sdjwt_digests.specs.Disclosure.{said};
+ghost use Rattle.owned_tree.specs.Owned.{tree_of, part_of, named_of};
+ghost use Rattle.claim_tree.specs.Ascending.{names_of};
 ghost use Rattle.sdjwt_disclosures.specs.code.SpelledItem.{parts_of};
 ghost use Rattle.sdjwt_disclosures.specs.code.MemberMap.{members_in};
-ghost use Rattle.sdjwt_disclosures.specs.DigestSites.{own_digests, texts_in};
+ghost use Rattle.sdjwt_digests.specs.DigestSites.{own_digests, texts_in};
 ghost use Rattle.sdjwt_disclosures.specs.DisclosedTree.{left_out, spelled, spelled_list, spelled_record};
+ghost use Rattle.sdjwt_disclosures.specs.DisclosedTree.{has_placeholder};
 ghost use Rattle.sdjwt_disclosures.specs.DisclosedTree.{spelled_element, spelled_members, plain_members};
 ghost use Rattle.sdjwt_disclosures.specs.DisclosedTree.{with_disclosure, with_disclosures};
 
-use crate::digest_sites::{has_placeholder, own_digests, placeholder};
-use crate::disclosures::Disclosures;
 use crate::member_map::{map_members, members_of, put};
 use crate::spelled_item::SpelledItem;
-use claim_tree::{OwnedElement, OwnedMember, OwnedTree};
+use owned_tree::{OwnedElement, OwnedMember, OwnedTree};
+use sdjwt_digests::Disclosures;
+use sdjwt_digests::digest_sites::{own_digests, placeholder};
 use serde_json::{Map, Number, Value};
 use std::alloc::{AllocError, Global};
 use std::collections::BTreeMap;
@@ -31,7 +32,7 @@ use std::collections::BTreeMap;
 pub fn spell(
     alloc: Global,
     levels: usize,
-    disclosures: &Disclosures,
+    disclosures: &Disclosures<'_>,
     value: &Value,
 ) -> Result<Option<OwnedTree>, AllocError>
     ensures { IfOk result
@@ -61,7 +62,7 @@ pub fn spell(
 fn spell_list(
     alloc: Global,
     levels: usize,
-    disclosures: &Disclosures,
+    disclosures: &Disclosures<'_>,
     list: &Vec<Value>,
 ) -> Result<Option<OwnedTree>, AllocError>
     ensures { IfOk result
@@ -83,7 +84,7 @@ fn spell_list(
 fn spell_element(
     alloc: Global,
     levels: usize,
-    disclosures: &Disclosures,
+    disclosures: &Disclosures<'_>,
     item: &Value,
 ) -> Result<SpelledItem, AllocError>
     ensures { IfOk result
@@ -108,7 +109,7 @@ fn spell_element(
 fn spell_record(
     alloc: Global,
     levels: usize,
-    disclosures: &Disclosures,
+    disclosures: &Disclosures<'_>,
     object: &Map<String, Value>,
 ) -> Result<Option<OwnedTree>, AllocError>
     ensures { IfOk result
@@ -125,7 +126,7 @@ fn spell_record(
 pub fn spell_members(
     alloc: Global,
     levels: usize,
-    disclosures: &Disclosures,
+    disclosures: &Disclosures<'_>,
     is_payload: bool,
     object: &Map<String, Value>,
 ) -> Result<Option<Vec<OwnedMember>>, AllocError>
@@ -147,7 +148,7 @@ pub fn spell_members(
 fn spell_plain(
     alloc: Global,
     levels: usize,
-    disclosures: &Disclosures,
+    disclosures: &Disclosures<'_>,
     is_payload: bool,
     object: &Map<String, Value>,
 ) -> Result<Option<Vec<OwnedMember>>, AllocError>
@@ -176,7 +177,7 @@ fn spell_plain(
 fn spell_disclosed(
     alloc: Global,
     levels: usize,
-    disclosures: &Disclosures,
+    disclosures: &Disclosures<'_>,
     digests: &Vec<Value>,
     plain: Vec<OwnedMember>,
 ) -> Result<Option<Vec<OwnedMember>>, AllocError>
@@ -201,7 +202,7 @@ fn spell_disclosed(
 fn put_disclosed(
     alloc: Global,
     levels: usize,
-    disclosures: &Disclosures,
+    disclosures: &Disclosures<'_>,
     digest: &str,
     by_name: &mut BTreeMap<String, OwnedElement>,
 ) -> Result<bool, AllocError>
@@ -231,6 +232,12 @@ fn put_disclosed(
         },
     )?;
     Ok(true)
+}
+
+fn has_placeholder(list: &Vec<Value>) -> bool
+    ensures { result ≡ has_placeholder (items_view list.now.items) }
+{
+    list.iter().any(|item| placeholder(item).is_some())
 }
 
 fn part(held: bool, tree: Option<OwnedTree>) -> SpelledItem

@@ -1,12 +1,12 @@
 // A map of an object's members by their names, to which members from disclosures are added.
 ghost use Rattle.std.specs.Prelude.{◌≡◌, IfOk, OnOk, true, map};
 ghost use Rattle.claim_tree.specs.Tree.{ascend};
-ghost use Rattle.claim_tree.specs.Owned.{named_of};
+ghost use Rattle.owned_tree.specs.Owned.{named_of};
 ghost use Rattle.sdjwt_disclosures.specs.PutMember.{put_member};
-ghost use Rattle.claim_tree.specs.Search.{names_of};
+ghost use Rattle.claim_tree.specs.Ascending.{names_of};
 ghost use Rattle.sdjwt_disclosures.specs.code.MemberMap.{members_in};
 
-use claim_tree::{OwnedElement, OwnedMember};
+use owned_tree::{OwnedElement, OwnedMember};
 use std::alloc::{AllocError, Global};
 use std::collections::BTreeMap;
 

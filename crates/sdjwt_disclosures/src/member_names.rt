@@ -4,22 +4,22 @@ ghost use Rattle.std.specs.List.{list_any};
 ghost use Rattle.std.specs.Option.{is_some};
 ghost use Rattle.serde_json.specs.Find.{get_member};
 ghost use Rattle.serde_json.specs.View.{view, items_view, members_view};
-ghost use Rattle.sdjwt_disclosures.specs.code.Disclosures.{all_said};
-ghost use Rattle.sdjwt_disclosures.specs.DigestSites.{own_digests, texts_in};
+ghost use Rattle.sdjwt_digests.specs.code.Disclosures.{all_said};
+ghost use Rattle.sdjwt_digests.specs.DigestSites.{own_digests, texts_in};
 ghost use Rattle.sdjwt_disclosures.specs.MemberNames.{disclosed_names, gets_clash, has_clash};
 ghost use Rattle.sdjwt_disclosures.specs.MemberNames.{items_have_clash};
 ghost use Rattle.sdjwt_disclosures.specs.MemberNames.{members_have_clash};
 
-use crate::digest_sites::{entry, own_digests, placeholder};
-use crate::disclosures::Disclosures;
 use base_forms::are_distinct;
+use sdjwt_digests::Disclosures;
+use sdjwt_digests::digest_sites::{entry, own_digests, placeholder};
 use serde_json::{Map, Value};
 use std::alloc::{AllocError, Global};
 
 /// The names that an object gets from disclosures.
 pub fn disclosed_names<'a>(
     alloc: Global,
-    disclosures: &'a Disclosures,
+    disclosures: &Disclosures<'a>,
     object: &Map<String, Value>,
 ) -> Result<Vec<&'a str>, AllocError>
     ensures { IfOk result
@@ -34,7 +34,7 @@ pub fn disclosed_names<'a>(
 }
 
 fn add_names<'a>(
-    disclosures: &'a Disclosures,
+    disclosures: &Disclosures<'a>,
     digests: &Vec<Value>,
     names: &mut Vec<&'a str>,
 ) -> Result<(), AllocError>
@@ -58,19 +58,14 @@ fn has_any_member(names: &[&str], object: &Map<String, Value>) -> bool
     ensures { result ≡ list_any (λ k. is_some (get_member k (members_view object.now.entries)))
         (map (λ s. s.now) names.now) }
 {
-    for name in names {
-        if entry(object, name).is_some() {
-            return true;
-        }
-    }
-    false
+    names.iter().any(|name| entry(object, name).is_some())
 }
 
 /// Whether some object within the value, other than a placeholder, gets a name twice.
 #[cycle(clash)]
 pub fn has_clash(
     alloc: Global,
-    disclosures: &Disclosures,
+    disclosures: &Disclosures<'_>,
     value: &Value,
 ) -> Result<bool, AllocError>
     ensures { IfOk result (λ b. b ≡ has_clash (all_said disclosures.now) (view value.now)) }
@@ -91,7 +86,7 @@ pub fn has_clash(
 #[cycle(clash)]
 fn items_have_clash(
     alloc: Global,
-    disclosures: &Disclosures,
+    disclosures: &Disclosures<'_>,
     list: &Vec<Value>,
 ) -> Result<bool, AllocError>
     ensures { IfOk result
@@ -108,7 +103,7 @@ fn items_have_clash(
 #[cycle(clash)]
 fn members_have_clash(
     alloc: Global,
-    disclosures: &Disclosures,
+    disclosures: &Disclosures<'_>,
     object: &Map<String, Value>,
 ) -> Result<bool, AllocError>
     ensures { IfOk result

@@ -7,28 +7,26 @@ ghost use Rattle.std.specs.Ordering.{nat_cmp};
 ghost use Rattle.std.specs.Cmp.Lexicographic.{slice_cmp};
 ghost use Rattle.serde_json.specs.View.{view};
 ghost use Rattle.base_forms.specs.Texts.{is_among, differ};
-ghost use Rattle.sdjwt_disclosures.specs.code.Disclosures.{all_said, site_of};
-ghost use Rattle.claim_tree.specs.Owned.{named_of};
-ghost use Rattle.sdjwt_disclosures.specs.DigestSites.{all_sites, values_sites, digest_at};
+ghost use Rattle.sdjwt_digests.specs.code.Disclosures.{all_said, site_of};
+ghost use Rattle.owned_tree.specs.Owned.{named_of};
+ghost use Rattle.sdjwt_digests.specs.DigestSites.{all_sites, digest_at};
 ghost use Rattle.sdjwt_disclosures.specs.Reachable.{are_reached};
 ghost use Rattle.sdjwt_disclosures.specs.MemberNames.{has_clash};
 ghost use Rattle.sdjwt_disclosures.specs.Processed.{IsProcessed};
 ghost use Rattle.sdjwt_disclosures.specs.code.Processed.{IsOwnProcessed};
 ghost use Rattle.sdjwt_disclosures.specs.MemberNames.{plain_only, top_names, any_clash};
-ghost use Rattle.sdjwt_disclosures.specs.DisclosureRules.{double_rule, names_rule};
-ghost use Rattle.sdjwt_disclosures.specs.Disclosure.{said};
+ghost use Rattle.sdjwt_disclosures.specs.DisclosureRules.{names_rule};
+ghost use Rattle.sdjwt_digests.specs.Disclosure.{said};
 ghost use Rattle.sdjwt_disclosures.specs.DisclosedTree.{spelled_payload};
 
-use crate::digest_sites::{Site, gather};
 use crate::disclosed_tree::spell_members;
-use crate::disclosure::Disclosure;
-use crate::disclosures::Disclosures;
 use crate::member_names::{disclosed_names, has_clash};
 use crate::reachable::{add_digests, add_reachable};
-use crate::reserved_names::reserved_names_rule;
 use crate::site_kinds::has_mismatch;
 use base_forms::{are_distinct, set_of};
-use claim_tree::OwnedMember;
+use owned_tree::OwnedMember;
+use sdjwt_digests::digest_sites::{Site, gather_all};
+use sdjwt_digests::{Disclosure, Disclosures, reserved_names_rule};
 use serde_json::Value;
 use std::alloc::{AllocError, Global};
 use std::collections::BTreeMap;
@@ -43,39 +41,42 @@ pub enum Processed {
 }
 
 /// The payload with each disclosure where its digest stood.
-pub fn process(
+pub fn process<'a>(
     alloc: Global,
-    payload: &Value,
-    list: Vec<Disclosure>,
+    payload: &'a Value,
+    list: &'a [Disclosure],
 ) -> Result<Processed, AllocError>
-    ensures { IfOk result (λ processed. IsProcessed (view payload.now) (map said list.items) processed) }
+    ensures { IfOk result (λ processed. IsProcessed (view payload.now) (map said list.now) processed) }
 {
-    if let Some(rule) = reserved_names_rule(payload, &list) {
+    if let Some(rule) = reserved_names_rule(payload, list) {
         return Ok(Processed::Broken(rule));
     }
-    if let Some(rule) = double_rule(alloc, payload, &list)? {
-        return Ok(Processed::Broken(rule));
+    let sites = gather_all(alloc, payload, list)?;
+    if !are_apart(alloc, &sites)? {
+        return Ok(Processed::Broken(9));
     }
     match Disclosures::new(alloc, list)? {
-        Some(disclosures) => process_own(alloc, payload, &disclosures),
+        Some(disclosures) => process_own(alloc, payload, &disclosures, &sites),
         None => Ok(Processed::Broken(10)),
     }
 }
 
-// The same where the rules 7 to 9 hold and the disclosures' digests differ.
-fn process_own(
+// The same where the rules 7 to 9 hold and the disclosures' digests differ, with all sites.
+fn process_own<'a>(
     alloc: Global,
-    payload: &Value,
-    disclosures: &Disclosures,
+    payload: &'a Value,
+    disclosures: &Disclosures<'a>,
+    sites: &Vec<Site<'a>>,
 ) -> Result<Processed, AllocError>
-    requires { differ (map (λ l. l.digest) (all_said disclosures.now)) ≡ true }
+    requires differ { differ (map (λ l. l.digest) (all_said disclosures.now)) ≡ true }
+    requires sites { map site_of sites.now.items ≡ all_sites (view payload.now) (all_said disclosures.now) }
     ensures { IfOk result
         (λ processed. IsOwnProcessed (view payload.now) (all_said disclosures.now) processed) }
 {
     if !are_reached(alloc, payload, disclosures)? {
         return Ok(Processed::Broken(10));
     }
-    if let Some(rule) = names_rule(alloc, payload, disclosures)? {
+    if let Some(rule) = names_rule(alloc, payload, disclosures, sites)? {
         return Ok(Processed::Broken(rule));
     }
     match spell_payload(alloc, payload, disclosures)? {
@@ -84,55 +85,20 @@ fn process_own(
     }
 }
 
-// The sites of digests in the payload and in the disclosures' values.
-fn gather_all<'a>(
-    alloc: Global,
-    payload: &'a Value,
-    list: &'a [Disclosure],
-) -> Result<Vec<Site<'a>>, AllocError>
-    ensures { IfOk result
-        (λ sites. map site_of sites.items ≡ all_sites (view payload.now) (map said list.now)) }
+// Whether no two sites hold equal digests.
+fn are_apart(alloc: Global, sites: &Vec<Site<'_>>) -> Result<bool, AllocError>
+    ensures { IfOk result (λ b. b ≡ differ (map digest_at (map site_of sites.now.items))) }
 {
-    let mut sites = Vec::new(alloc);
-    gather(payload, &mut sites)?;
-    gather_values(list, &mut sites)?;
-    Ok(sites)
-}
-
-fn gather_values<'a>(list: &'a [Disclosure], sites: &mut Vec<Site<'a>>) -> Result<(), AllocError>
-    ensures { OnOk result (map site_of sites.new.items ≡ map site_of sites.old.items ++ values_sites
-        (map said list.now)) }
-{
-    for disclosure in list {
-        gather(disclosure.value(), sites)?;
-    }
-    Ok(())
-}
-
-// Rule 9, where two sites hold equal digests.
-#[tactic(auto, unfolding(base_forms::specs::Rules::rule, crate::specs::DisclosureRules::double_rule))]
-fn double_rule(
-    alloc: Global,
-    payload: &Value,
-    list: &[Disclosure],
-) -> Result<Option<u8>, AllocError>
-    ensures { IfOk result (λ o. o ≡ double_rule (view payload.now) (map said list.now)) }
-{
-    let sites = gather_all(alloc, payload, list)?;
     let mut digests = Vec::new(alloc);
-    add_digests(&sites, &mut digests)?;
-    if are_distinct(alloc, &digests)? {
-        Ok(None)
-    } else {
-        Ok(Some(9))
-    }
+    add_digests(sites, &mut digests)?;
+    are_distinct(alloc, &digests)
 }
 
 // Whether the digest of each disclosure is reached from the payload.
-fn are_reached(
+fn are_reached<'a>(
     alloc: Global,
-    payload: &Value,
-    disclosures: &Disclosures,
+    payload: &'a Value,
+    disclosures: &Disclosures<'a>,
 ) -> Result<bool, AllocError>
     ensures { IfOk result (λ b. b ≡ are_reached (view payload.now) (all_said disclosures.now)) }
 {
@@ -147,12 +113,8 @@ fn are_among(list: &[Disclosure], digests: &BTreeMap<&str, ()>) -> bool
     ensures { result ≡ list_all (λ l. is_some (get_by (λ k. slice_cmp nat_cmp l.digest k.now) digests.now))
         (map said list.now) }
 {
-    for disclosure in list {
-        if !digests.contains_key(disclosure.digest()) {
-            return false;
-        }
-    }
-    true
+    list.iter()
+        .all(|disclosure| digests.contains_key(disclosure.digest()))
 }
 
 // The first of the rules 11 to 13 that is broken, on kinds and names of disclosures.
@@ -160,12 +122,13 @@ fn are_among(list: &[Disclosure], digests: &BTreeMap<&str, ()>) -> bool
 fn names_rule(
     alloc: Global,
     payload: &Value,
-    disclosures: &Disclosures,
+    disclosures: &Disclosures<'_>,
+    sites: &Vec<Site<'_>>,
 ) -> Result<Option<u8>, AllocError>
+    requires { map site_of sites.now.items ≡ all_sites (view payload.now) (all_said disclosures.now) }
     ensures { IfOk result (λ o. o ≡ names_rule (view payload.now) (all_said disclosures.now)) }
 {
-    let sites = gather_all(alloc, payload, disclosures.list())?;
-    if has_mismatch(disclosures, &sites) {
+    if has_mismatch(disclosures, sites) {
         return Ok(Some(11));
     }
     if any_clash(alloc, payload, disclosures)? {
@@ -178,7 +141,11 @@ fn names_rule(
     Ok(None)
 }
 
-fn any_clash(alloc: Global, payload: &Value, disclosures: &Disclosures) -> Result<bool, AllocError>
+fn any_clash(
+    alloc: Global,
+    payload: &Value,
+    disclosures: &Disclosures<'_>,
+) -> Result<bool, AllocError>
     ensures { IfOk result (λ b. b ≡ any_clash (view payload.now) (all_said disclosures.now)) }
 {
     if has_clash(alloc, disclosures, payload)? {
@@ -189,7 +156,7 @@ fn any_clash(alloc: Global, payload: &Value, disclosures: &Disclosures) -> Resul
 
 fn any_value_clashes(
     alloc: Global,
-    disclosures: &Disclosures,
+    disclosures: &Disclosures<'_>,
     list: &[Disclosure],
 ) -> Result<bool, AllocError>
     ensures { IfOk result
@@ -207,7 +174,7 @@ fn any_value_clashes(
 fn top_names<'a>(
     alloc: Global,
     payload: &Value,
-    disclosures: &'a Disclosures,
+    disclosures: &Disclosures<'a>,
 ) -> Result<Vec<&'a str>, AllocError>
     ensures { IfOk result
         (λ v. map (λ s. s.now) v.items ≡ top_names (all_said disclosures.now) (view payload.now)) }
@@ -221,12 +188,7 @@ fn top_names<'a>(
 fn any_is_plain_only(names: &[&str]) -> bool
     ensures { result ≡ list_any (λ k. is_among k plain_only) (map (λ s. s.now) names.now) }
 {
-    for name in names {
-        if is_plain_only(name) {
-            return true;
-        }
-    }
-    false
+    names.iter().any(|name| is_plain_only(name))
 }
 
 // Whether a member of this name may stand in the top object as signed alone, and never come from a
@@ -246,7 +208,7 @@ fn is_plain_only(name: &str) -> bool
 fn spell_payload(
     alloc: Global,
     payload: &Value,
-    disclosures: &Disclosures,
+    disclosures: &Disclosures<'_>,
 ) -> Result<Option<Vec<OwnedMember>>, AllocError>
     ensures { IfOk result
         (λ o. option_map (λ v. map named_of v.items) o ≡ spelled_payload (all_said disclosures.now)

@@ -1,12 +1,12 @@
 // The digests that are reached from a value, directly and through disclosures.
 ghost use Rattle.std.specs.Prelude.{◌≡◌, ◌++◌, OnOk, map, option_map};
 ghost use Rattle.serde_json.specs.View.{view};
-ghost use Rattle.sdjwt_disclosures.specs.DigestSites.{digest_at};
+ghost use Rattle.sdjwt_digests.specs.DigestSites.{digest_at};
 ghost use Rattle.sdjwt_disclosures.specs.Reachable.{reached};
-ghost use Rattle.sdjwt_disclosures.specs.code.Disclosures.{all_said, site_of};
+ghost use Rattle.sdjwt_digests.specs.code.Disclosures.{all_said, site_of};
 
-use crate::digest_sites::{Site, gather};
-use crate::disclosures::Disclosures;
+use sdjwt_digests::Disclosures;
+use sdjwt_digests::digest_sites::{Site, gather};
 use serde_json::Value;
 use std::alloc::{AllocError, Global};
 
@@ -15,7 +15,7 @@ use std::alloc::{AllocError, Global};
 pub fn add_reachable<'a>(
     alloc: Global,
     fuel: usize,
-    disclosures: &'a Disclosures,
+    disclosures: &Disclosures<'a>,
     value: &'a Value,
     digests: &mut Vec<&'a str>,
 ) -> Result<(), AllocError>

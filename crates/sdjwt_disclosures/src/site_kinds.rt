@@ -2,12 +2,12 @@
 ghost use Rattle.std.specs.Prelude.{◌≡◌, map};
 ghost use Rattle.std.specs.List.{list_any};
 ghost use Rattle.sdjwt_disclosures.specs.DisclosureRules.{is_mismatch};
-ghost use Rattle.sdjwt_disclosures.specs.code.Disclosures.{all_said, site_of};
+ghost use Rattle.sdjwt_digests.specs.code.Disclosures.{all_said, site_of};
 
-use crate::digest_sites::Site;
-use crate::disclosures::Disclosures;
+use sdjwt_digests::Disclosures;
+use sdjwt_digests::digest_sites::Site;
 
-fn is_mismatch(disclosures: &Disclosures, site: Site<'_>) -> bool
+fn is_mismatch(disclosures: &Disclosures<'_>, site: Site<'_>) -> bool
     ensures { result ≡ is_mismatch (all_said disclosures.now) (site_of site.entry) }
 {
     match site {
@@ -23,13 +23,8 @@ fn is_mismatch(disclosures: &Disclosures, site: Site<'_>) -> bool
 }
 
 /// Whether some site has the digest of a disclosure of the other kind.
-pub fn has_mismatch(disclosures: &Disclosures, sites: &Vec<Site<'_>>) -> bool
+pub fn has_mismatch(disclosures: &Disclosures<'_>, sites: &Vec<Site<'_>>) -> bool
     ensures { result ≡ list_any (is_mismatch (all_said disclosures.now)) (map site_of sites.now.items) }
 {
-    for site in sites {
-        if is_mismatch(disclosures, *site) {
-            return true;
-        }
-    }
-    false
+    sites.iter().any(|site| is_mismatch(disclosures, *site))
 }

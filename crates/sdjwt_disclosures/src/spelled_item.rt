@@ -1,6 +1,6 @@
 // What an item of a JSON list becomes in the claim tree.
 
-use claim_tree::OwnedElement;
+use owned_tree::OwnedElement;
 
 // An element, none, or a value with too many levels.
 #[derive(Drop)]

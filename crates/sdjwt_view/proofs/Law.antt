@@ -18,14 +18,14 @@ use Rattle.claim_tree.specs.Tree.{ascend, hold_claims, member_names}
 use Rattle.claim_tree.specs.Plain.{plain_members as plain_fields}
 use Rattle.claim_tree.specs.Parts.{Named}
 use Rattle.base_forms.specs.Texts.{Utf8, is_among, differ}
-use Rattle.sdjwt_disclosures.specs.Disclosures.{Disclosed, salted, json_in, digest_of, disclosed}
-use Rattle.sdjwt_disclosures.specs.Disclosures.{all_disclosed}
-use Rattle.sdjwt_disclosures.specs.DigestSites.{digest_at, all_sites}
+use Rattle.sdjwt_digests.specs.Disclosures.{Disclosed, salted, json_in, digest_of, disclosed}
+use Rattle.sdjwt_digests.specs.Disclosures.{all_disclosed}
+use Rattle.sdjwt_digests.specs.DigestSites.{digest_at, all_sites}
 use Rattle.sdjwt_disclosures.specs.DisclosureRules.{is_mismatch}
-use Rattle.sdjwt_disclosures.specs.ReservedNames.{is_sound}
-use Rattle.sdjwt_disclosures.specs.ReservedNames.{has_reserved_name}
+use Rattle.sdjwt_digests.specs.ReservedNames.{is_sound}
+use Rattle.sdjwt_digests.specs.ReservedNames.{has_reserved_name, reserved_names_rule}
 use Rattle.sdjwt_disclosures.specs.MemberNames.{plain_only, top_names, any_clash}
-use Rattle.sdjwt_disclosures.specs.DisclosureRules.{reserved_names_rule, double_rule, reach_rule, names_rule}
+use Rattle.sdjwt_disclosures.specs.DisclosureRules.{double_rule, reach_rule, names_rule}
 use Rattle.sdjwt_disclosures.specs.DisclosureRules.{depth_rule, own_site_rule, processing_rule}
 use Rattle.sdjwt_disclosures.specs.DisclosedTree.{sd_alg, left_out, spelled, spelled_members, spelled_payload}
 use Rattle.sdjwt_view.specs.Facts.{facts_rule}
@@ -36,13 +36,13 @@ use Rattle.sdjwt_view.specs.Reading.{content_from, content_in}
 use Rattle.sdjwt_disclosures.specs.Spelling.{Spells, SpellMembers, SpellsPayload, UsesEach}
 use Rattle.sdjwt_view.specs.Relation.{Says, Reads}
 use Rattle.sdjwt_disclosures.proofs.Built.{split_joined, split_map}
-use Rattle.sdjwt_disclosures.proofs.Claims.{IsSound, AreSound}
+use Rattle.sdjwt_digests.proofs.ValueClaims.{IsSound, AreSound}
 use Rattle.sdjwt_disclosures.proofs.Computed.{payload_computed}
 use Rattle.sdjwt_disclosures.proofs.Fields.{LeavesTexts, has_one, leaves_hash}
 use Rattle.sdjwt_disclosures.proofs.ProcessingSteps.{first_past}
 use Rattle.sdjwt_view.proofs.ReadSteps.{envelope_sound}
 use Rattle.sdjwt_disclosures.proofs.Uses.{HoldFlat, flat_holds, relation_holds}
-use Rattle.sdjwt_disclosures.proofs.ValueClaims.{json_in-claim, salted-claim}
+use Rattle.sdjwt_digests.proofs.ValueClaims.{json_in-claim, salted-claim}
 use Rattle.sdjwt_disclosures.proofs.Walks.{held_names}
 
 -- ---- tables of rules

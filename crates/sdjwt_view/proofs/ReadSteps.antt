@@ -14,10 +14,10 @@ use Rattle.sdjwt_view.specs.Reading.{refusal_of_parts, refusal_of, content_from,
 use Rattle.sdjwt_view.specs.Reading.{Content}
 use Rattle.sdjwt_view.specs.Refusal.{IsRefusal}
 use Rattle.sdjwt_view.specs.code.Refusal.{IsInnerRefusal}
-use Rattle.sdjwt_disclosures.specs.Disclosure.{said}
+use Rattle.sdjwt_digests.specs.Disclosure.{said}
 use Rattle.claim_tree.specs.Parts.{Named, members_of}
 use Rattle.sdjwt_disclosures.specs.DisclosedTree.{spelled_payload}
-use Rattle.sdjwt_disclosures.specs.declared.disclosure.Disclosure.{Disclosure}
+use Rattle.sdjwt_digests.specs.declared.disclosure.Disclosure.{Disclosure}
 use Rattle.sdjwt_view.specs.declared.error.Error.{Error}
 use Rattle.sdjwt_view.specs.declared.error.Error.TheVariants.{Refused, Envelope as EnvelopeError, NoMemory}
 use Rattle.jws_envelope.specs.declared.error.Error as theirs
@@ -25,7 +25,7 @@ use Rattle.jws_envelope.specs.declared.error.Error.TheVariants as their
 use Rattle.jws_envelope.specs.Refusal.{IsRefusal as TheirRefusal}
 use Rattle.sdjwt_view.specs.code.EnvelopeError.{of_envelope}
 use Rattle.sdjwt_disclosures.proofs.Claims.{IsSound, AreSound, payload_claim}
-use Rattle.sdjwt_disclosures.proofs.ValueClaims.{json_claim}
+use Rattle.sdjwt_digests.proofs.ValueClaims.{json_claim}
 
 pub no_parts : (t : Utf8) → parts_of (pieces t) ≡ None → refusal_of t ≡ Some (refused 1)
 unfolding refusal_of

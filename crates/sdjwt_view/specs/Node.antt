@@ -1,7 +1,7 @@
 -- The claim tree that a node of a credential means: the part of the credential's tree from this node on.
 use Rattle.std.specs.Prelude.{◌≡◌, true}
 use Rattle.claim_tree.specs.Tree.{Tree, is_claim}
-use Rattle.claim_tree.specs.OwnedNode as owned
+use Rattle.owned_tree.specs.OwnedNode as owned
 use Rattle.sdjwt_view.specs.declared.node.SdNode.{SdNode}
 
 abbrev pub node_tree : SdNode → Tree

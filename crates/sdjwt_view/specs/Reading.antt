@@ -19,7 +19,7 @@ use Rattle.claim_tree.specs.Tree.{RecordOf}
 use Rattle.claim_tree.specs.Credential.{Credential}
 use Rattle.claim_tree.specs.declared.facts.Format.TheVariants.{SdJwt}
 use Rattle.base_forms.specs.Texts.{Utf8}
-use Rattle.sdjwt_disclosures.specs.Disclosures.{Disclosed, all_disclosed}
+use Rattle.sdjwt_digests.specs.Disclosures.{Disclosed, all_disclosed}
 use Rattle.claim_tree.specs.Parts.{Named, members_of}
 use Rattle.sdjwt_disclosures.specs.DisclosedTree.{sd_alg, spelled_payload}
 use Rattle.sdjwt_disclosures.specs.DisclosureRules.{processing_rule}

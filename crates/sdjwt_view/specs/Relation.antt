@@ -7,9 +7,9 @@ use Rattle.base_forms.specs.Texts.{Utf8, differ}
 use Rattle.jws_envelope.specs.Compact.{dot_parts}
 use Rattle.jws_envelope.specs.Envelope.{Envelope, envelope_of, jws_rule}
 use Rattle.claim_tree.specs.Parts.{Named}
-use Rattle.sdjwt_disclosures.specs.Disclosures.{Disclosed, all_disclosed}
-use Rattle.sdjwt_disclosures.specs.DigestSites.{digest_at, all_sites}
-use Rattle.sdjwt_disclosures.specs.ReservedNames.{is_sound, has_reserved_name}
+use Rattle.sdjwt_digests.specs.Disclosures.{Disclosed, all_disclosed}
+use Rattle.sdjwt_digests.specs.DigestSites.{digest_at, all_sites}
+use Rattle.sdjwt_digests.specs.ReservedNames.{is_sound, has_reserved_name}
 use Rattle.sdjwt_disclosures.specs.Spelling.{SpellsPayload, UsesEach}
 use Rattle.sdjwt_view.specs.Reading.{Content, pieces, parts_of, has_sd_type, named_hash, most_disclosures}
 use Rattle.sdjwt_view.specs.Reading.{content_with}

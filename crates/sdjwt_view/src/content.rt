@@ -1,11 +1,12 @@
 // What an SD-JWT says.
 ghost use Rattle.std.specs.Prelude.{◌≡◌, true};
 ghost use Rattle.claim_tree.specs.Tree.{is_claim};
-ghost use Rattle.claim_tree.specs.Owned.{tree_of};
+ghost use Rattle.owned_tree.specs.Owned.{tree_of};
 
 use base_forms::HashName;
-use claim_tree::{KeyName, OwnedTree};
+use claim_tree::KeyName;
 use jws_envelope::Jws;
+use owned_tree::OwnedTree;
 
 /// The issuer's message, the hash of its digests, its claim tree and its facts.
 #[derive(Drop)]

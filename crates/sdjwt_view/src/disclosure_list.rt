@@ -2,10 +2,10 @@
 ghost use Rattle.std.specs.Prelude.{◌≡◌, IfOk, List, Some, None, map, option_map, nat_lt, length};
 ghost use Rattle.serde_json.specs.View.{view};
 ghost use Rattle.jws_envelope.specs.Jws.{envelope};
-ghost use Rattle.sdjwt_disclosures.specs.Disclosures.{all_disclosed};
+ghost use Rattle.sdjwt_digests.specs.Disclosures.{all_disclosed};
 ghost use Rattle.sdjwt_view.specs.code.DisclosureList.{IsListed};
 ghost use Rattle.sdjwt_view.specs.Reading.{has_sd_type, named_hash};
-ghost use Rattle.sdjwt_disclosures.specs.Disclosure.{said};
+ghost use Rattle.sdjwt_digests.specs.Disclosure.{said};
 
 use base_forms::HashName;
 use json_forms::text_at;

@@ -3,12 +3,12 @@ ghost use Rattle.std.specs.Prelude.{◌≡◌, true, None, IfOk, IfErr, map};
 ghost use Rattle.claim_tree.specs.Plain.{plain};
 ghost use Rattle.claim_tree.specs.Tree.{RecordOf, is_claim};
 ghost use Rattle.claim_tree.specs.Parts.{members_of};
-ghost use Rattle.claim_tree.specs.Owned.{named_of};
+ghost use Rattle.owned_tree.specs.Owned.{named_of};
 ghost use Rattle.jws_envelope.specs.Jws.{envelope};
 ghost use Rattle.sdjwt_view.specs.Facts.{facts_rule};
 ghost use Rattle.sdjwt_view.specs.Reading.{inner_rule, later_rule, content_from, content_with, members_with};
 ghost use Rattle.sdjwt_view.specs.code.Content.{content_in_memory};
-ghost use Rattle.sdjwt_disclosures.specs.Disclosure.{said};
+ghost use Rattle.sdjwt_digests.specs.Disclosure.{said};
 ghost use Rattle.sdjwt_view.specs.code.Refusal.{IsInnerRefusal};
 
 use crate::content::Content;
@@ -16,8 +16,8 @@ use crate::disclosure_list::{Listed, read_list};
 use crate::error::Error;
 use crate::facts::{facts_rule, first_of, holder_of, kind_of, past_of};
 use base_forms::HashName;
-use claim_tree::{OwnedMember, OwnedTree};
 use jws_envelope::Jws;
+use owned_tree::{OwnedMember, OwnedTree};
 use sdjwt_disclosures::{Disclosure, Processed, process};
 use std::alloc::Global;
 
@@ -51,7 +51,7 @@ fn read_processed<'t>(
     ensures refused { IfErr result
         (λ e. IsInnerRefusal (later_rule (envelope jws.entry).payload (map said list.items)) e) }
 {
-    match process(alloc, jws.payload(), list)? {
+    match process(alloc, jws.payload(), &list)? {
         Processed::Tree(members) => read_facts(alloc, jws, hash, members),
         Processed::Broken(rule) => Err(Error::Refused(rule)),
     }

@@ -1,7 +1,7 @@
 -- The elements that an item of a JSON list becomes, and none where it has too many levels.
 use Rattle.std.specs.Prelude.{List, [], ◌∷◌, Option, Some, None}
 use Rattle.claim_tree.specs.Parts.{Part}
-use Rattle.claim_tree.specs.Owned.{part_of}
+use Rattle.owned_tree.specs.Owned.{part_of}
 use Rattle.sdjwt_disclosures.specs.declared.spelled_item.SpelledItem.{SpelledItem}
 use Rattle.sdjwt_disclosures.specs.declared.spelled_item.SpelledItem.TheVariants.{Found, Nothing, TooDeep}
 

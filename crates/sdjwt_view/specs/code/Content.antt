@@ -2,7 +2,7 @@
 use Rattle.std.specs.Prelude.{string_bytes}
 use Rattle.jws_envelope.specs.Jws.{envelope}
 use Rattle.jws_envelope.specs.Seal.{jws_seal}
-use Rattle.claim_tree.specs.Owned.{tree_of}
+use Rattle.owned_tree.specs.Owned.{tree_of}
 use Rattle.claim_tree.specs.declared.facts.Format.TheVariants.{SdJwt}
 use Rattle.sdjwt_view.specs.Reading.{Content}
 use Rattle.sdjwt_view.specs.declared.content.Content as memory

@@ -5,7 +5,7 @@ use Rattle.base_forms.specs.Texts.{Utf8}
 use Rattle.sdjwt_view.specs.Reading.{Content, content_in}
 use Rattle.sdjwt_view.specs.code.Content.{content_in_memory}
 use Rattle.sdjwt_view.specs.declared.content.Content as memory
-use Rattle.claim_tree.specs.code.TreeCode.{tree_code}
+use Rattle.owned_tree.specs.code.TreeCode.{tree_code}
 use Rattle.sdjwt_view.specs.code.DataCode.{data_code}
 
 content_code : Coded (Option Content)

@@ -4,9 +4,9 @@ use Rattle.jws_envelope.specs.Envelope.{Envelope}
 use Rattle.sdjwt_view.specs.declared.disclosure_list.Listed.{Listed}
 use Rattle.sdjwt_view.specs.declared.disclosure_list.Listed.TheVariants.{Read, Broken}
 use Rattle.base_forms.specs.Texts.{Utf8}
-use Rattle.sdjwt_disclosures.specs.Disclosures.{all_disclosed}
+use Rattle.sdjwt_digests.specs.Disclosures.{all_disclosed}
 use Rattle.sdjwt_view.specs.Reading.{hash_of, forms_rule}
-use Rattle.sdjwt_disclosures.specs.Disclosure.{said}
+use Rattle.sdjwt_digests.specs.Disclosure.{said}
 
 -- none of the rules 3 to 6 is broken and this is what the texts say, or this is the first that is broken
 abbrev pub IsListed : Envelope → List Utf8 → Listed → Type 0

@@ -5,12 +5,12 @@ use Rattle.std.proofs.lemmas.List.{map-append}
 use Rattle.serde_json.specs.Data.{member as field}
 use Rattle.serde_json.specs.View.{view, items_view, members_view}
 use Rattle.base_forms.specs.Texts.{Utf8, is_among}
-use Rattle.sdjwt_disclosures.specs.code.Disclosures.{all_said}
-use Rattle.claim_tree.specs.Owned.{tree_of, named_of}
-use Rattle.claim_tree.specs.Prefixed.{prefixed}
+use Rattle.sdjwt_digests.specs.code.Disclosures.{all_said}
+use Rattle.owned_tree.specs.Owned.{tree_of, named_of}
+use Rattle.owned_tree.specs.Prefixed.{prefixed}
 use Rattle.sdjwt_disclosures.specs.DisclosedTree.{spelled, spelled_list, has_placeholder, left_out}
 use Rattle.sdjwt_disclosures.specs.DisclosedTree.{plain_members}
-use Rattle.claim_tree.specs.declared.owned.OwnedTree.{List as OwnedList}
+use Rattle.owned_tree.specs.declared.owned.OwnedTree.{List as OwnedList}
 use Rattle.sdjwt_disclosures.proofs.Orders.{plain_ascend}
 use Rattle.sdjwt_disclosures.proofs.SpelledValues.{spelled-list, spelled-record, list_done, plain_step}
 use Rattle.sdjwt_disclosures.proofs.disclosed_tree.+spell.Goals as goal

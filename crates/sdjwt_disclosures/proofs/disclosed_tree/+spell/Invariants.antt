@@ -1,12 +1,12 @@
 use Rattle.std.proofs.Common.{◌≡◌, true, ◌+◌, ◌*◌, map, drop}
 use Rattle.serde_json.specs.View.{items_view, members_view}
-use Rattle.sdjwt_disclosures.specs.code.Disclosures.{all_said}
+use Rattle.sdjwt_digests.specs.code.Disclosures.{all_said}
 use Rattle.claim_tree.specs.Tree.{ascend}
-use Rattle.claim_tree.specs.Search.{names_of}
-use Rattle.claim_tree.specs.Owned.{part_of, named_of}
-use Rattle.sdjwt_disclosures.specs.DigestSites.{texts_in}
+use Rattle.claim_tree.specs.Ascending.{names_of}
+use Rattle.owned_tree.specs.Owned.{part_of, named_of}
+use Rattle.sdjwt_digests.specs.DigestSites.{texts_in}
 use Rattle.sdjwt_disclosures.specs.code.MemberMap.{members_in}
-use Rattle.claim_tree.specs.Prefixed.{prefixed}
+use Rattle.owned_tree.specs.Prefixed.{prefixed}
 use Rattle.sdjwt_disclosures.specs.DisclosedTree.{spelled, spelled_elements, plain_members, with_disclosures}
 use Rattle.sdjwt_disclosures.proofs.disclosed_tree.+spell.Given as goal
 

@@ -1,8 +1,8 @@
 use Rattle.std.proofs.Common.{◌≡◌, true, ◌++◌, map}
 use Rattle.std.specs.Vec.Iter.{into_iter_items}
 use Rattle.claim_tree.specs.Tree.{ascend}
-use Rattle.claim_tree.specs.Owned.{named_of}
-use Rattle.claim_tree.specs.Search.{names_of}
+use Rattle.owned_tree.specs.Owned.{named_of}
+use Rattle.claim_tree.specs.Ascending.{names_of}
 use Rattle.sdjwt_disclosures.specs.code.MemberMap.{members_in}
 use Rattle.sdjwt_disclosures.proofs.member_map.map_members.Given as goal
 

@@ -1,5 +1,5 @@
 use Rattle.std.proofs.Common.{◌≡◌, ◌++◌, map}
-use Rattle.claim_tree.specs.Owned.{named_of}
+use Rattle.owned_tree.specs.Owned.{named_of}
 use Rattle.sdjwt_disclosures.specs.code.MemberMap.{members_in}
 use Rattle.sdjwt_disclosures.proofs.member_map.members_of.Given as goal
 

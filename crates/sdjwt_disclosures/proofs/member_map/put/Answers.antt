@@ -3,8 +3,8 @@ use Rattle.std.specs.Option.{is_some}
 use Rattle.std.specs.BTreeMap.{get_by}
 use Rattle.std.specs.Cmp.Lexicographic.{slice_cmp}
 use Rattle.claim_tree.specs.Tree.{ascend}
-use Rattle.claim_tree.specs.Owned.{tree_of, named_of}
-use Rattle.claim_tree.specs.Search.{names_of}
+use Rattle.owned_tree.specs.Owned.{tree_of, named_of}
+use Rattle.claim_tree.specs.Ascending.{names_of}
 use Rattle.sdjwt_disclosures.proofs.PutMembers.{ascend-put}
 use Rattle.sdjwt_disclosures.specs.code.MemberMap.{members_in}
 use Rattle.sdjwt_disclosures.proofs.MemberMaps.{there, present, absent}

@@ -4,7 +4,7 @@ use Rattle.std.specs.Option.{is_some}
 use Rattle.serde_json.specs.Find.{get_member}
 use Rattle.serde_json.specs.View.{members_view}
 use Rattle.base_forms.specs.Texts.{differ}
-use Rattle.sdjwt_disclosures.specs.code.Disclosures.{all_said}
+use Rattle.sdjwt_digests.specs.code.Disclosures.{all_said}
 use Rattle.sdjwt_disclosures.proofs.ReachedDigests.{clash_rest}
 use Rattle.sdjwt_disclosures.proofs.member_names.+clash.Goals as goal
 

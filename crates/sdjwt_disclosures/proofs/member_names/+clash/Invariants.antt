@@ -1,6 +1,6 @@
 use Rattle.std.proofs.Common.{◌≡◌, drop}
 use Rattle.serde_json.specs.View.{items_view, members_view}
-use Rattle.sdjwt_disclosures.specs.code.Disclosures.{all_said}
+use Rattle.sdjwt_digests.specs.code.Disclosures.{all_said}
 use Rattle.sdjwt_disclosures.specs.MemberNames.{items_have_clash, members_have_clash}
 use Rattle.sdjwt_disclosures.proofs.member_names.+clash.Given as goal
 

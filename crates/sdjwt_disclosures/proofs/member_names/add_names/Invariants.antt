@@ -1,7 +1,7 @@
 use Rattle.std.proofs.Common.{◌≡◌, ◌++◌, drop, map}
 use Rattle.serde_json.specs.View.{items_view}
-use Rattle.sdjwt_disclosures.specs.code.Disclosures.{all_said}
-use Rattle.sdjwt_disclosures.specs.DigestSites.{texts_in}
+use Rattle.sdjwt_digests.specs.code.Disclosures.{all_said}
+use Rattle.sdjwt_digests.specs.DigestSites.{texts_in}
 use Rattle.sdjwt_disclosures.specs.MemberNames.{disclosed_names}
 use Rattle.sdjwt_disclosures.proofs.member_names.add_names.Given as goal
 

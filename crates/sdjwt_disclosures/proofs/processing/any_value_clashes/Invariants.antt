@@ -1,7 +1,7 @@
 use Rattle.std.proofs.Common.{◌≡◌, drop, map}
 use Rattle.std.specs.List.{list_any}
-use Rattle.sdjwt_disclosures.specs.Disclosure.{said}
-use Rattle.sdjwt_disclosures.specs.code.Disclosures.{all_said}
+use Rattle.sdjwt_digests.specs.Disclosure.{said}
+use Rattle.sdjwt_digests.specs.code.Disclosures.{all_said}
 use Rattle.sdjwt_disclosures.specs.MemberNames.{has_clash}
 use Rattle.sdjwt_disclosures.proofs.processing.any_value_clashes.Given as goal
 

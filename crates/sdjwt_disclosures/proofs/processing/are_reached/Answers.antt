@@ -6,9 +6,9 @@ use Rattle.std.specs.Cmp.Lexicographic.{slice_cmp}
 use Rattle.std.proofs.lemmas.List.{length-map}
 use Rattle.serde_json.specs.View.{view}
 use Rattle.base_forms.specs.Texts.{is_among}
-use Rattle.sdjwt_disclosures.specs.code.Disclosures.{all_said}
+use Rattle.sdjwt_digests.specs.code.Disclosures.{all_said}
 use Rattle.sdjwt_disclosures.specs.Reachable.{reached}
-use Rattle.sdjwt_disclosures.specs.Disclosure.{said}
+use Rattle.sdjwt_digests.specs.Disclosure.{said}
 use Rattle.sdjwt_disclosures.proofs.ProcessingSteps.{all_same}
 use Rattle.sdjwt_disclosures.proofs.processing.are_reached.Goals as goal
 

@@ -1,7 +1,7 @@
 use Rattle.std.proofs.Common.{◌≡◌, true, option_map, option_and_then, map, ap, subst}
 use Rattle.std.specs.Prelude.{IfOk}
-use Rattle.sdjwt_disclosures.specs.code.Disclosures.{all_said}
-use Rattle.claim_tree.specs.Owned.{named_of}
+use Rattle.sdjwt_digests.specs.code.Disclosures.{all_said}
+use Rattle.owned_tree.specs.Owned.{named_of}
 use Rattle.sdjwt_disclosures.specs.DisclosedTree.{spelled, spelled_members, spelled_payload}
 use Rattle.sdjwt_disclosures.proofs.processing.spell_payload.Goals as goal
 

@@ -1,7 +1,7 @@
 use Rattle.std.proofs.Common.{◌<◌, ◌++◌, map, ap, sym, ◌∙◌, arith}
 use Rattle.serde_json.specs.View.{view}
-use Rattle.sdjwt_disclosures.specs.code.Disclosures.{all_said, site_of}
-use Rattle.sdjwt_disclosures.specs.DigestSites.{digest_at, sites_in}
+use Rattle.sdjwt_digests.specs.code.Disclosures.{all_said, site_of}
+use Rattle.sdjwt_digests.specs.DigestSites.{digest_at, sites_in}
 use Rattle.sdjwt_disclosures.proofs.ReachedDigests.{reach_done}
 use Rattle.sdjwt_disclosures.proofs.reachable.+add_reachable.Goals as goal
 

@@ -1,6 +1,6 @@
 use Rattle.std.proofs.Common.{◌≡◌, ◌++◌, ◌-◌, drop, map}
-use Rattle.sdjwt_disclosures.specs.code.Disclosures.{all_said, site_of}
-use Rattle.sdjwt_disclosures.specs.DigestSites.{digest_at}
+use Rattle.sdjwt_digests.specs.code.Disclosures.{all_said, site_of}
+use Rattle.sdjwt_digests.specs.DigestSites.{digest_at}
 use Rattle.sdjwt_disclosures.specs.Reachable.{reached, reached_by}
 use Rattle.sdjwt_disclosures.proofs.reachable.+add_reachable.Given as goal
 

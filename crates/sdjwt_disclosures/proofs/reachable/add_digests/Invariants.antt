@@ -1,6 +1,6 @@
 use Rattle.std.proofs.Common.{◌≡◌, ◌++◌, drop, map}
-use Rattle.sdjwt_disclosures.specs.code.Disclosures.{site_of}
-use Rattle.sdjwt_disclosures.specs.DigestSites.{digest_at}
+use Rattle.sdjwt_digests.specs.code.Disclosures.{site_of}
+use Rattle.sdjwt_digests.specs.DigestSites.{digest_at}
 use Rattle.sdjwt_disclosures.proofs.reachable.add_digests.Given as goal
 
 abbrev pub invariant-loop-site : goal.invariant-loop-site

@@ -1,7 +1,7 @@
 use Rattle.std.proofs.Common.{◌≡◌, drop, map}
-use Rattle.sdjwt_disclosures.specs.Disclosures.{all_disclosed}
-use Rattle.claim_tree.specs.Prefixed.{prefixed}
-use Rattle.sdjwt_disclosures.specs.Disclosure.{said}
+use Rattle.sdjwt_digests.specs.Disclosures.{all_disclosed}
+use Rattle.owned_tree.specs.Prefixed.{prefixed}
+use Rattle.sdjwt_digests.specs.Disclosure.{said}
 use Rattle.sdjwt_view.proofs.disclosure_list.read_all.Given as goal
 
 abbrev pub invariant-loop-text : goal.invariant-loop-text

@@ -1,0 +1,4 @@
+pub mod FirstIndexes
+pub mod LastElements
+pub mod ValueClaims
+pub mod ListedTexts
