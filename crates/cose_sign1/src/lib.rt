@@ -7,7 +7,9 @@ mod issuer;
 mod parts;
 mod payload;
 mod sign1;
+mod writing;
 
 pub use error::{Error, NoMemory};
 pub use payload::Payload;
 pub use sign1::Sign1;
+pub use writing::{draft_message, write_sign1};

@@ -10,7 +10,8 @@ use crate::error::{Error, NoMemory};
 use crate::headers::find_label;
 use crate::parts::Parts;
 use crate::payload::Payload;
-use cbor_core::{Item, Kind, Writer, read_one};
+use crate::writing::signed;
+use cbor_core::{Item, Kind, read_one};
 use claim_tree::Alg;
 use std::alloc::Global;
 
@@ -97,13 +98,7 @@ impl<'a> Sign1<'a> {
     pub fn to_be_signed(&self, alloc: Global, payload: &[u8]) -> Result<Vec<u8>, NoMemory>
         ensures { IfOk result (λ v. v.items ≡ signed_bytes (message self.now).protected payload.now) }
     {
-        let mut writer = Writer::new(alloc);
-        writer.list(4)?;
-        writer.text("Signature1")?;
-        writer.bytes(self.parts.protected)?;
-        writer.bytes(&[])?;
-        writer.bytes(payload)?;
-        Ok(writer.finish())
+        signed(alloc, self.parts.protected, payload)
     }
 }
 
