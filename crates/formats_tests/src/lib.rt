@@ -13,3 +13,5 @@ mod outlines;
 mod sd_jwt;
 #[cfg(test)]
 mod signed;
+#[cfg(test)]
+mod writing;

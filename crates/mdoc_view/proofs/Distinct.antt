@@ -11,11 +11,11 @@ use Rattle.base_forms.specs.Texts.{Utf8, is_among, differ}
 use Rattle.base_forms.proofs.Differing.{bytes_eq-flip}
 use Rattle.claim_tree.specs.Tree.{Tree, Other, RecordOf}
 use Rattle.claim_tree.specs.Parts.{members_of}
-use Rattle.mdoc_view.specs.Value.{Valued, in_order, rise, marked, record_of}
+use Rattle.mdoc_items.specs.Value.{Valued, in_order, rise, marked, record_of}
 use Rattle.mdoc_view.specs.Relation.{IsHeldRecord}
-use Rattle.mdoc_view.proofs.SortedOnce.{along_permutation}
-use Rattle.mdoc_view.proofs.InOrder.{by_name, Up, Strict, strict_from_rise, in_order_same, up_in_order}
-use Rattle.mdoc_view.proofs.InOrder.{in_order_is}
+use Rattle.mdoc_items.proofs.SortedOnce.{along_permutation}
+use Rattle.mdoc_items.proofs.InOrder.{by_name, Up, Strict, strict_from_rise, in_order_same, up_in_order}
+use Rattle.mdoc_items.proofs.InOrder.{in_order_is}
 
 abbrev pub names_in : List Valued → List Utf8
 names_in ms = map (λ m. m.0) ms

@@ -13,12 +13,12 @@ use Rattle.base_forms.specs.declared.hash.HashName.{HashName}
 use Rattle.base_forms.proofs.Differing.{same_from}
 use Rattle.claim_tree.specs.Tree.{Tree}
 use Rattle.cbor_core.specs.Views.{Span, utf8_text_of, items_of, find_in}
-use Rattle.mdoc_view.specs.MapFields.{Entries, text_at, natural_at, bytes_at, one_map, embedded}
-use Rattle.mdoc_view.specs.ValueDigests.{digest_at}
-use Rattle.mdoc_view.specs.IssuerSignedItems.{IssuerSignedItem, Namespace, item_by, item_in, all_items}
-use Rattle.mdoc_view.specs.IssuerSignedItems.{namespace_in, all_namespaces, elements_differ, lacks, deviates}
-use Rattle.mdoc_view.specs.IssuerSignedItems.{any_item}
-use Rattle.mdoc_view.specs.Value.{Valued, value_of, record_of, namespace_tree}
+use Rattle.mdoc_items.specs.MapFields.{Entries, text_at, natural_at, bytes_at, one_map, embedded}
+use Rattle.mdoc_security.specs.ValueDigests.{digest_at}
+use Rattle.mdoc_items.specs.IssuerSignedItems.{IssuerSignedItem, Namespace, item_by, item_in, all_items}
+use Rattle.mdoc_items.specs.IssuerSignedItems.{namespace_in, all_namespaces}
+use Rattle.mdoc_view.specs.ItemRules.{elements_differ, lacks, deviates, any_item}
+use Rattle.mdoc_items.specs.Value.{Valued, value_of, record_of, namespace_tree}
 use Rattle.mdoc_view.specs.Relation.{IsItem, GiveMembers, GiveNamespaces}
 use Rattle.mdoc_view.proofs.Options.{split, split_map}
 use Rattle.mdoc_view.proofs.Distinct.{names_in, record_held, held_record}

@@ -8,9 +8,9 @@ use Rattle.std.proofs.lemmas.Bool.{cases_Bool, and_parts, and_from, lt-ltb}
 use Rattle.std.proofs.lemmas.List.{take_all}
 use Rattle.base_forms.specs.Texts.{Utf8, is_among, differ}
 use Rattle.base_forms.proofs.Differing.{bytes_eq-flip}
-use Rattle.cbor_core.specs.declared.head.Fault.{Fault}
-use Rattle.cbor_core.specs.declared.head.Head.{Head}
-use Rattle.cbor_core.specs.declared.head.Head.TheVariants as head
+use Rattle.cbor_validity.specs.declared.head.Fault.{Fault}
+use Rattle.cbor_validity.specs.declared.head.Head.{Head}
+use Rattle.cbor_validity.specs.declared.head.Head.TheVariants as head
 use Rattle.cbor_core.specs.Head.{head_at}
 use Rattle.cbor_core.specs.Item.{item_at}
 use Rattle.cbor_core.specs.Keys.{KeyMeaning, text, encoding, key_by, key_of, same_key, keys_differ, keys_in}
@@ -18,8 +18,8 @@ use Rattle.cbor_core.specs.Rules.{each_inside, is_fine_text, is_fine_map, later_
 use Rattle.cbor_core.specs.Views.{Span, on_ok, before, cut, text_by, text_of, if_utf8, utf8_text_of, items_in}
 use Rattle.cbor_core.specs.Views.{items_of, pair_up, pairs_of, map_by, inside_by, inside_of, entries_of}
 use Rattle.cbor_core.specs.Views.{is_text, find_in}
-use Rattle.mdoc_view.specs.MapFields.{Entries}
-use Rattle.mdoc_view.specs.IssuerSignedItems.{Namespace, all_items, namespace_in, all_namespaces}
+use Rattle.mdoc_items.specs.MapFields.{Entries}
+use Rattle.mdoc_items.specs.IssuerSignedItems.{Namespace, all_items, namespace_in, all_namespaces}
 use Rattle.mdoc_view.proofs.Options.{split, split_map}
 
 -- ---- the keys of a map inside a map

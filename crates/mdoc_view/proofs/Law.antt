@@ -9,20 +9,21 @@ use Rattle.cbor_core.specs.Rules.{broken_rule}
 use Rattle.cbor_core.specs.Views.{Span, entries_of, find_in}
 use Rattle.cose_sign1.specs.declared.payload.Payload.TheVariants.{Inside}
 use Rattle.cose_sign1.specs.Sign1.{Message, message_in, sign1_rule, rule_of_parts, issuer_of}
-use Rattle.mdoc_view.specs.MapFields.{Entries}
+use Rattle.mdoc_items.specs.MapFields.{Entries}
 use Rattle.mdoc_view.specs.IssuerSigned.{IssuerSigned, are_namespaces, namespaces_of, namespaces_in}
 use Rattle.mdoc_view.specs.IssuerSigned.{issuer_signed_in}
-use Rattle.mdoc_view.specs.MobileSecurityObject.{MobileSecurityObject, security_object_in, first_in, last_in}
-use Rattle.mdoc_view.specs.DeviceKey.{device_key_in, key_name}
-use Rattle.mdoc_view.specs.IssuerSignedItems.{Namespace, all_namespaces}
-use Rattle.mdoc_view.specs.Value.{record_of, document_tree}
+use Rattle.mdoc_security.specs.MobileSecurityObject.{MobileSecurityObject, security_object_in}
+use Rattle.mdoc_security.specs.MobileSecurityObject.{first_in, last_in, hash_of}
+use Rattle.mdoc_security.specs.DeviceKey.{device_key_in, key_name}
+use Rattle.mdoc_items.specs.IssuerSignedItems.{Namespace, all_namespaces}
+use Rattle.mdoc_items.specs.Value.{record_of, document_tree}
 use Rattle.claim_tree.specs.Credential.{Credential}
 use Rattle.claim_tree.specs.Tree.{Tree}
 use Rattle.claim_tree.specs.declared.facts.Format.TheVariants.{Mdoc}
 use Rattle.cose_sign1.specs.Seal.{cose_seal}
 use Rattle.mdoc_view.specs.Reading.{Content, credential_with, content_with, content_from, content_by}
 use Rattle.mdoc_view.specs.Reading.{content_in, credential_in}
-use Rattle.mdoc_view.specs.Refusal.{refused, hash_of, rule_of_security_object, payload_of, refusal_past}
+use Rattle.mdoc_view.specs.Refusal.{refused, rule_of_security_object, payload_of, refusal_past}
 use Rattle.mdoc_view.specs.Refusal.{refusal_of_issuer_signed, refusal_by, refusal_of}
 use Rattle.mdoc_view.specs.Relation.{Reads}
 use Rattle.mdoc_view.proofs.Options.{split, split_map}

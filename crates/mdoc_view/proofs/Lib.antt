@@ -1,13 +1,3 @@
-mod Indexes
-mod Dates
-mod SortedOnce
-mod Inserting
-mod Prefixes
-mod KeyPairs
-mod InOrder
-mod ValueClaims
-mod Levels
-mod Naming
 mod ReadSteps
 mod Options
 mod Distinct

@@ -9,13 +9,13 @@ use Rattle.base_forms.specs.Hash.{mso_hash_named}
 use Rattle.base_forms.specs.Rules.{rule, first}
 use Rattle.base_forms.specs.declared.hash.HashName.{HashName}
 use Rattle.cbor_core.specs.Views.{Span}
-use Rattle.mdoc_view.specs.MapFields.{Entries}
-use Rattle.mdoc_view.specs.MobileSecurityObject.{MobileSecurityObject, first_in, last_in, has_version}
-use Rattle.mdoc_view.specs.MobileSecurityObject.{has_wrong_key, security_object_rule}
-use Rattle.mdoc_view.specs.DeviceKey.{device_key_in, is_key}
-use Rattle.mdoc_view.specs.IssuerSignedItems.{Namespace, all_namespaces, item_count, most_items}
-use Rattle.mdoc_view.specs.IssuerSignedItems.{elements_differ, lacks, deviates, any_item, digests_rule}
-use Rattle.mdoc_view.specs.Refusal.{hash_of, rule_of_namespaces, items_rule, rule_of_security_object}
+use Rattle.mdoc_items.specs.MapFields.{Entries}
+use Rattle.mdoc_security.specs.MobileSecurityObject.{MobileSecurityObject, first_in, last_in, has_version}
+use Rattle.mdoc_security.specs.MobileSecurityObject.{hash_of, has_wrong_key, security_object_rule}
+use Rattle.mdoc_security.specs.DeviceKey.{device_key_in, is_key}
+use Rattle.mdoc_items.specs.IssuerSignedItems.{Namespace, all_namespaces, item_count, most_items}
+use Rattle.mdoc_view.specs.ItemRules.{elements_differ, lacks, deviates, any_item, digests_rule}
+use Rattle.mdoc_view.specs.Refusal.{rule_of_namespaces, items_rule, rule_of_security_object}
 use Rattle.mdoc_view.specs.Relation.{IsSound}
 use Rattle.mdoc_view.proofs.Given.{NoFault}
 

@@ -4,7 +4,7 @@ use Rattle.std.specs.Prelude.{Bool, ◌&&◌, [], codes, Option, Some, None, opt
 use Rattle.std.specs.Prelude.{if◌then◌else◌}
 use Rattle.std.specs.List.{list_all}
 use Rattle.cbor_core.specs.Views.{Span, is_map, kind_of, utf8_text_of, items_of, entries_of, find_in}
-use Rattle.mdoc_view.specs.MapFields.{Entries, is_list, embedded}
+use Rattle.mdoc_items.specs.MapFields.{Entries, is_list, embedded}
 
 pub record IssuerSigned : Type 0 where
   pub namespaces : Entries

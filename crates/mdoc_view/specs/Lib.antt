@@ -1,10 +1,11 @@
-pub mod MapFields
+pub use Rattle.mdoc_items.specs.MapFields
+pub use Rattle.mdoc_items.specs.IssuerSignedItems
+pub use Rattle.mdoc_items.specs.Value
+pub use Rattle.mdoc_security.specs.ValueDigests
+pub use Rattle.mdoc_security.specs.DeviceKey
+pub use Rattle.mdoc_security.specs.MobileSecurityObject
 pub mod IssuerSigned
-pub mod ValueDigests
-pub mod MobileSecurityObject
-pub mod DeviceKey
-pub mod IssuerSignedItems
-pub mod Value
+pub mod ItemRules
 pub mod Reading
 pub mod Refusal
 pub mod Credential

@@ -2,7 +2,7 @@
 -- 18013-5, section 8.3.2.1.2.2).
 use Rattle.std.specs.Prelude.{◌≡◌, true}
 use Rattle.claim_tree.specs.Tree.{Tree, is_claim}
-use Rattle.claim_tree.specs.OwnedNode as owned
+use Rattle.owned_tree.specs.OwnedNode as owned
 use Rattle.mdoc_view.specs.declared.node.MdNode.{MdNode}
 
 abbrev pub node_tree : MdNode → Tree

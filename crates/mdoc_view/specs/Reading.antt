@@ -5,12 +5,13 @@ use Rattle.claim_tree.specs.Credential.{Credential}
 use Rattle.claim_tree.specs.declared.facts.Format.TheVariants.{Mdoc}
 use Rattle.cose_sign1.specs.Seal.{cose_seal}
 use Rattle.cose_sign1.specs.Sign1.{Message, message_in, issuer_of}
-use Rattle.mdoc_view.specs.MapFields.{Entries}
+use Rattle.mdoc_items.specs.MapFields.{Entries}
 use Rattle.mdoc_view.specs.IssuerSigned.{issuer_signed_in}
-use Rattle.mdoc_view.specs.MobileSecurityObject.{MobileSecurityObject, security_object_in, first_in, past_in}
-use Rattle.mdoc_view.specs.DeviceKey.{holder_of}
-use Rattle.mdoc_view.specs.IssuerSignedItems.{Namespace, all_namespaces}
-use Rattle.mdoc_view.specs.Value.{document_tree}
+use Rattle.mdoc_security.specs.MobileSecurityObject.{MobileSecurityObject, security_object_in}
+use Rattle.mdoc_security.specs.MobileSecurityObject.{first_in, past_in}
+use Rattle.mdoc_security.specs.DeviceKey.{holder_of}
+use Rattle.mdoc_items.specs.IssuerSignedItems.{Namespace, all_namespaces}
+use Rattle.mdoc_items.specs.Value.{document_tree}
 
 pub record Content : Type 0 where
   pub auth : Message

@@ -1,29 +1,23 @@
 -- The first rule that a mobile document (ISO/IEC 18013-5, sections 8.3.2.1.2.2 and 9.1.2.4) breaks, of the
 -- rules of the document, of CBOR and of its issuer's signed message.
 use Rattle.std.specs.Prelude.{ℕ, nat_lt, List, [], ◌∷◌, Option, Some, None, option_map, option_and_then}
-use Rattle.std.specs.Prelude.{unwrap_or}
 use Rattle.base_forms.specs.Rules.{rule, first}
-use Rattle.base_forms.specs.Hash.{mso_hash_named}
-use Rattle.base_forms.specs.declared.hash.HashName.{HashName}
-use Rattle.base_forms.specs.declared.hash.HashName.TheVariants.{Sha256}
 use Rattle.cbor_core.specs.Rules.{broken_rule}
 use Rattle.cose_sign1.specs.declared.payload.Payload.TheVariants.{Inside}
 use Rattle.cose_sign1.specs.Sign1.{message_in, sign1_rule}
 use Rattle.cbor_core.specs.Views.{Span}
-use Rattle.mdoc_view.specs.MapFields.{Entries}
+use Rattle.mdoc_items.specs.MapFields.{Entries}
 use Rattle.mdoc_view.specs.IssuerSigned.{IssuerSigned, issuer_signed_in}
-use Rattle.mdoc_view.specs.MobileSecurityObject.{MobileSecurityObject, security_object_in}
-use Rattle.mdoc_view.specs.MobileSecurityObject.{security_object_rule}
-use Rattle.mdoc_view.specs.IssuerSignedItems.{Namespace, all_namespaces, item_count, most_items, digests_rule}
+use Rattle.mdoc_security.specs.MobileSecurityObject.{MobileSecurityObject, security_object_in}
+use Rattle.mdoc_security.specs.MobileSecurityObject.{hash_of, security_object_rule}
+use Rattle.mdoc_items.specs.IssuerSignedItems.{Namespace, all_namespaces, item_count, most_items}
+use Rattle.mdoc_view.specs.ItemRules.{digests_rule}
 
 -- by a rule of the document, by one of its CBOR, or by one of its issuer's signed message
 pub data Refusal : Type 0 where
   refused : ℕ → Refusal
   cbor : ℕ → Refusal
   cose : ℕ → Refusal
-
-abbrev pub hash_of : MobileSecurityObject → HashName
-hash_of o = unwrap_or (mso_hash_named o.algorithm) Sha256
 
 -- rules 11 to 13, where rule 10 is not broken
 abbrev pub rule_of_namespaces : MobileSecurityObject → Option (List Namespace) → Option ℕ

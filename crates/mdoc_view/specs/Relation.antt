@@ -14,14 +14,14 @@ use Rattle.claim_tree.specs.Parts.{members_of}
 use Rattle.cose_sign1.specs.declared.payload.Payload.TheVariants.{Inside}
 use Rattle.cose_sign1.specs.Seal.{cose_seal}
 use Rattle.cose_sign1.specs.Sign1.{Message, message_in, sign1_rule, issuer_of}
-use Rattle.mdoc_view.specs.MapFields.{Utf8, Entries, text_at, natural_at, bytes_at, one_map, embedded}
+use Rattle.mdoc_items.specs.MapFields.{Utf8, Entries, text_at, natural_at, bytes_at, one_map, embedded}
 use Rattle.mdoc_view.specs.IssuerSigned.{IssuerSigned, issuer_signed_in}
-use Rattle.mdoc_view.specs.MobileSecurityObject.{MobileSecurityObject, security_object_in, first_in, last_in}
-use Rattle.mdoc_view.specs.MobileSecurityObject.{has_version}
-use Rattle.mdoc_view.specs.ValueDigests.{digest_at}
-use Rattle.mdoc_view.specs.DeviceKey.{device_key_in, is_key, key_name}
-use Rattle.mdoc_view.specs.IssuerSignedItems.{item_count, most_items}
-use Rattle.mdoc_view.specs.Value.{Valued, rise, marked, value_of}
+use Rattle.mdoc_security.specs.MobileSecurityObject.{MobileSecurityObject, security_object_in}
+use Rattle.mdoc_security.specs.MobileSecurityObject.{first_in, last_in, has_version}
+use Rattle.mdoc_security.specs.ValueDigests.{digest_at}
+use Rattle.mdoc_security.specs.DeviceKey.{device_key_in, is_key, key_name}
+use Rattle.mdoc_items.specs.IssuerSignedItems.{item_count, most_items}
+use Rattle.mdoc_items.specs.Value.{Valued, rise, marked, value_of}
 
 -- ---- issuer-signed items
 

@@ -7,12 +7,12 @@ ghost use Rattle.mdoc_view.specs.code.ContentCode.{content_fact};
 
 use crate::content::Content;
 use crate::error::{Error, cbor_error};
-use crate::map_fields::LEVELS;
 use crate::node::MdNode;
 use crate::reader::read_content;
 use cbor_core::read_one;
 use claim_tree::{Facts, Format};
 use cose_sign1::Sign1;
+use mdoc_items::LEVELS;
 use std::alloc::Global;
 
 /// A credential that was read from the `IssuerSigned` of a mobile document. It borrows the bytes that it was

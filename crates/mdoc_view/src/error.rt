@@ -1,48 +1,8 @@
-// The errors of this crate.
+// The error of this crate.
 ghost use Rattle.std.specs.Prelude.{◌≡◌};
 ghost use Rattle.mdoc_view.specs.code.Conversions.{of_cbor, of_cose};
 
-use std::alloc::{AllocError, AllocFailed};
-
-/// Out of memory.
-#[derive(Clone, Copy, PartialEq, Eq, Debug)]
-pub struct NoMemory;
-
-impl From<AllocError> for NoMemory {
-    fn from(_error: AllocError) -> NoMemory {
-        NoMemory
-    }
-}
-
-impl<T: Drop> From<AllocFailed<T>> for NoMemory {
-    fn from(_error: AllocFailed<T>) -> NoMemory {
-        NoMemory
-    }
-}
-
-impl From<base_forms::NoMemory> for NoMemory {
-    fn from(_error: base_forms::NoMemory) -> NoMemory {
-        NoMemory
-    }
-}
-
-impl From<cbor_core::NoMemory> for NoMemory {
-    fn from(_error: cbor_core::NoMemory) -> NoMemory {
-        NoMemory
-    }
-}
-
-impl From<cose_sign1::NoMemory> for NoMemory {
-    fn from(_error: cose_sign1::NoMemory) -> NoMemory {
-        NoMemory
-    }
-}
-
-impl From<claim_tree::NoMemory> for NoMemory {
-    fn from(_error: claim_tree::NoMemory) -> NoMemory {
-        NoMemory
-    }
-}
+use mdoc_security::NoMemory;
 
 /// Why no mobile document was read.
 #[derive(Clone, Copy, PartialEq, Eq, Debug)]

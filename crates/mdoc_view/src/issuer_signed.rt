@@ -4,8 +4,8 @@ ghost use Rattle.cbor_core.specs.Seen.{span_of};
 ghost use Rattle.mdoc_view.specs.IssuerSigned.{issuer_signed_in, are_embedded, is_namespace, are_namespaces};
 ghost use Rattle.mdoc_view.specs.code.Parts.{said_issuer_signed};
 
-use crate::map_fields::{embedded, is_list, is_map};
 use cbor_core::Item;
+use mdoc_items::{embedded, is_list, is_map};
 
 /// An `IssuerSigned`. It borrows the bytes that it was read from.
 #[derive(Clone, Copy)]
@@ -44,15 +44,7 @@ impl<'t> IssuerSigned<'t> {
 fn are_namespaces(item: Item) -> bool
     ensures { result ≡ are_namespaces (span_of item.entry) }
 {
-    if !is_map(item) {
-        return false;
-    }
-    for (name, list) in item.entries() {
-        if !is_namespace(name, list) {
-            return false;
-        }
-    }
-    true
+    is_map(item) && item.entries().all(|(name, list)| is_namespace(name, list))
 }
 
 fn is_namespace(name: Item, list: Item) -> bool
@@ -64,13 +56,5 @@ fn is_namespace(name: Item, list: Item) -> bool
 fn are_embedded(list: Item) -> bool
     ensures { result ≡ are_embedded (span_of list.entry) }
 {
-    if !is_list(list) {
-        return false;
-    }
-    for item in list.items() {
-        if embedded(item).is_none() {
-            return false;
-        }
-    }
-    true
+    is_list(list) && list.items().all(|item| embedded(item).is_some())
 }

@@ -4,16 +4,15 @@ ghost use Rattle.base_forms.specs.Rules.{rule, first};
 ghost use Rattle.std.specs.List.{list_any, list_all};
 ghost use Rattle.cbor_core.specs.Seen.{span_of};
 ghost use Rattle.cbor_core.specs.Views.{entries_of};
-ghost use Rattle.mdoc_view.specs.IssuerSignedItems.{digests_rule, elements_differ, lacks, deviates, any_item};
+ghost use Rattle.mdoc_items.specs.Parts.{said_item, said_namespace, entries_in};
+ghost use Rattle.mdoc_security.specs.SecurityObject.{said_security_object};
+ghost use Rattle.mdoc_view.specs.ItemRules.{digests_rule, elements_differ, lacks, deviates, any_item};
 ghost use Rattle.mdoc_view.specs.code.Checked.{IsChecked};
-ghost use Rattle.mdoc_view.specs.code.Parts.{said_item, said_namespace, said_security_object, entries_in};
 
-use crate::error::NoMemory;
-use crate::issuer_signed_items::{IssuerSignedItem, Namespace, are_too_many, read_namespaces};
-use crate::mobile_security_object::MobileSecurityObject;
-use crate::value_digests::{NamespaceDigests, ValueDigests};
 use base_forms::{HashName, are_distinct};
 use cbor_core::Item;
+use mdoc_items::{IssuerSignedItem, Namespace, are_too_many, read_namespaces};
+use mdoc_security::{MobileSecurityObject, NamespaceDigests, NoMemory, ValueDigests};
 use std::alloc::{AllocError, Global};
 
 /// The namespaces with their items, or the first broken rule on issuer-signed items.
@@ -47,7 +46,7 @@ pub fn check_items<'t>(
 
 // The first broken rule of these: no element stands twice in its namespace; each item has a digest; the
 // digest is that of the item.
-#[tactic(auto, unfolding(base_forms::specs::Rules::rule, crate::specs::IssuerSignedItems::digests_rule))]
+#[tactic(auto, unfolding(base_forms::specs::Rules::rule, crate::specs::ItemRules::digests_rule))]
 fn digests_rule<'t>(
     alloc: Global,
     hash: HashName,
@@ -125,12 +124,9 @@ fn any_item_lacks<'t>(digests: &NamespaceDigests<'t>, items: &[IssuerSignedItem<
     ensures { result ≡ list_any (lacks (entries_of (span_of digests.now.source)) digests.now.name.now)
         (map said_item items.now) }
 {
-    for item in items {
-        if digests.find(item.digest_id).is_none() {
-            return true;
-        }
-    }
-    false
+    items
+        .iter()
+        .any(|item| digests.find(item.digest_id).is_none())
 }
 
 fn any_item_deviates<'t>(

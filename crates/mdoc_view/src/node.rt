@@ -1,10 +1,11 @@
 // A node of a document's claim tree.
 ghost use Rattle.std.specs.Prelude.{◌≡◌, true};
-ghost use Rattle.claim_tree.specs.Owned.{tree_of};
+ghost use Rattle.owned_tree.specs.Owned.{tree_of};
 ghost use Rattle.claim_tree.specs.Tree.{is_claim};
 ghost use Rattle.mdoc_view.specs.Node.{node_tree, node_is_claim};
 
-use claim_tree::{ClaimNode, ClaimView, OwnedNode, OwnedTree, Shape};
+use claim_tree::{ClaimNode, ClaimView, Shape};
+use owned_tree::{OwnedNode, OwnedTree};
 
 /// A node of a mobile document's claim tree. Its texts live as long as the credential.
 #[derive(Clone, Copy)]

@@ -2,24 +2,23 @@
 ghost use Rattle.std.specs.Prelude.{◌≡◌, None, Some, IfOk, IfErr, map};
 ghost use Rattle.cbor_core.specs.Seen.{span_of};
 ghost use Rattle.cose_sign1.specs.code.Message.{message};
+ghost use Rattle.mdoc_items.specs.Parts.{said_namespace, entries_in};
+ghost use Rattle.mdoc_security.specs.SecurityObject.{said_security_object};
 ghost use Rattle.mdoc_view.specs.Errors.{IsRefusal, IsInnerRefusal};
 ghost use Rattle.mdoc_view.specs.IssuerSigned.{issuer_signed_in};
-ghost use Rattle.mdoc_view.specs.MobileSecurityObject.{security_object_in};
+ghost use Rattle.mdoc_security.specs.MobileSecurityObject.{security_object_in};
 ghost use Rattle.mdoc_view.specs.Reading.{content_with, content_by, content_in};
 ghost use Rattle.mdoc_view.specs.Refusal.{refusal_of_issuer_signed, rule_of_security_object};
 ghost use Rattle.mdoc_view.specs.code.Content.{content_in_memory};
-ghost use Rattle.mdoc_view.specs.code.Parts.{said_security_object, said_namespace, entries_in};
 
 use crate::content::Content;
-use crate::device_key::holder_of;
-use crate::error::{Error, NoMemory, cose_error};
+use crate::error::{Error, cose_error};
 use crate::issuer_signed::IssuerSigned;
-use crate::issuer_signed_items::Namespace;
 use crate::item_rules::{CheckedItems, check_items};
-use crate::mobile_security_object::MobileSecurityObject;
-use crate::tree::document_tree;
 use cbor_core::Item;
 use cose_sign1::{Payload, Sign1};
+use mdoc_items::{Namespace, document_tree};
+use mdoc_security::{MobileSecurityObject, NoMemory, holder_of};
 use std::alloc::Global;
 
 /// The content of an item that is an `IssuerSigned`.
@@ -76,7 +75,7 @@ fn build<'t>(
         (map said_namespace namespaces.now)) }
 {
     let root = document_tree(alloc, namespaces)?;
-    let issuer = auth.issuer_name(alloc)?;
+    let issuer = auth.issuer_name(alloc).or(Err(NoMemory))?;
     let holder = holder_of(alloc, object.map)?;
     Ok(Content {
         auth,

@@ -1,6 +1,6 @@
 -- What the content of a document in memory stands for.
 use Rattle.std.specs.Prelude.{[], unwrap_or}
-use Rattle.claim_tree.specs.Owned.{tree_of}
+use Rattle.owned_tree.specs.Owned.{tree_of}
 use Rattle.claim_tree.specs.declared.facts.Format.TheVariants.{Mdoc}
 use Rattle.cose_sign1.specs.Seal.{cose_seal}
 use Rattle.cose_sign1.specs.code.Message.{message}

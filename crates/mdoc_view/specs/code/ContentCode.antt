@@ -2,7 +2,7 @@
 -- keeps.
 use Rattle.std.specs.Prelude.{◌≡◌, Option}
 use Rattle.std.specs.Coded.{Coded, Coded-set, codes}
-use Rattle.claim_tree.specs.code.TreeCode.{tree_code}
+use Rattle.owned_tree.specs.code.TreeCode.{tree_code}
 use Rattle.mdoc_view.specs.Reading.{Content}
 
 content_code : Coded (Option Content)

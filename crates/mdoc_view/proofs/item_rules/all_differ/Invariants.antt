@@ -1,7 +1,7 @@
 use Rattle.std.proofs.Common.{◌≡◌, map, drop}
 use Rattle.std.specs.List.{list_all}
-use Rattle.mdoc_view.specs.IssuerSignedItems.{elements_differ}
-use Rattle.mdoc_view.specs.code.Parts.{said_namespace}
+use Rattle.mdoc_view.specs.ItemRules.{elements_differ}
+use Rattle.mdoc_items.specs.Parts.{said_namespace}
 use Rattle.mdoc_view.proofs.item_rules.all_differ.Given as goal
 
 abbrev pub invariant-loop-namespace : goal.invariant-loop-namespace

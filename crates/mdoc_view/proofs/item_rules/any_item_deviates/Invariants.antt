@@ -2,8 +2,8 @@ use Rattle.std.proofs.Common.{◌≡◌, map, drop}
 use Rattle.std.specs.List.{list_any}
 use Rattle.cbor_core.specs.Seen.{span_of}
 use Rattle.cbor_core.specs.Views.{entries_of}
-use Rattle.mdoc_view.specs.IssuerSignedItems.{deviates}
-use Rattle.mdoc_view.specs.code.Parts.{said_item}
+use Rattle.mdoc_view.specs.ItemRules.{deviates}
+use Rattle.mdoc_items.specs.Parts.{said_item}
 use Rattle.mdoc_view.proofs.item_rules.any_item_deviates.Given as goal
 
 abbrev pub invariant-loop-item : goal.invariant-loop-item

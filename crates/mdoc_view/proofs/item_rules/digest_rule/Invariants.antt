@@ -2,8 +2,8 @@ use Rattle.std.proofs.Common.{◌≡◌, ◌||◌, map, drop}
 use Rattle.std.specs.List.{list_any}
 use Rattle.cbor_core.specs.Seen.{span_of}
 use Rattle.cbor_core.specs.Views.{entries_of}
-use Rattle.mdoc_view.specs.IssuerSignedItems.{any_item, lacks, deviates}
-use Rattle.mdoc_view.specs.code.Parts.{said_namespace}
+use Rattle.mdoc_view.specs.ItemRules.{any_item, lacks, deviates}
+use Rattle.mdoc_items.specs.Parts.{said_namespace}
 use Rattle.mdoc_view.proofs.item_rules.digest_rule.Given as goal
 
 abbrev pub invariant-loop-namespace : goal.invariant-loop-namespace

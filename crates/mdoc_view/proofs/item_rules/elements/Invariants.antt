@@ -1,5 +1,5 @@
 use Rattle.std.proofs.Common.{◌≡◌, ◌++◌, map, drop}
-use Rattle.mdoc_view.specs.code.Parts.{said_item}
+use Rattle.mdoc_items.specs.Parts.{said_item}
 use Rattle.mdoc_view.proofs.item_rules.elements.Given as goal
 
 abbrev pub invariant-loop-item : goal.invariant-loop-item

@@ -1,0 +1,4 @@
+mod Indexes
+mod Dates
+mod Inserting
+mod KeyPairs

@@ -1,0 +1,3 @@
+-- What ties code to the definitions: the meaning of its own types, and what stays true in its loops.
+pub mod Indexes
+pub mod Pairs
