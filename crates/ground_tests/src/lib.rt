@@ -1,4 +1,5 @@
-//! Tests of `base_forms`, `json_forms`, `claim_tree` and `cbor_core`, over their public functions alone.
+//! Tests of `base_forms`, `json_forms`, `claim_tree`, `cbor_core`, `key_device` and `bench_device`, over
+//! their public functions alone.
 //!
 //! A row of most tables is a call, the text that goes in and the text that comes out (`told.rt`).
 #![tactic(auto)]
@@ -9,6 +10,8 @@ mod cbor;
 mod forms;
 #[cfg(test)]
 mod json;
+#[cfg(test)]
+mod keys;
 #[cfg(test)]
 mod told;
 #[cfg(test)]

@@ -1,5 +1,5 @@
 // Calls with a text that goes in and a text that comes out.
-use crate::{cbor, forms, json, trees};
+use crate::{cbor, forms, json, keys, trees};
 use std::alloc::Global;
 use std::test::Fail;
 
@@ -34,6 +34,12 @@ pub enum Call {
     KindOfItem,
     /// The CBOR encoding of an integer, in hexadecimal.
     WriteInteger,
+    /// A secret and a message: the signature by the bench's device, and what is said of it.
+    BenchSignature,
+    /// Whether a signature by this secret is judged yes where the key is known and not held.
+    KnownKey,
+    /// Calls of a device in memory.
+    MemoryDevice,
 }
 
 /// What comes out.
@@ -60,6 +66,9 @@ pub fn told(alloc: Global, call: Call, text: &str) -> Result<String, Fail> {
         Call::Parts => trees::parts(alloc, text),
         Call::KindOfItem => cbor::kind(alloc, text),
         Call::WriteInteger => cbor::integer(alloc, text),
+        Call::BenchSignature => keys::bench_signature(alloc, text),
+        Call::KnownKey => keys::known(alloc, text),
+        Call::MemoryDevice => keys::memory(alloc, text),
     }
 }
 

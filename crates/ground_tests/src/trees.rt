@@ -1,13 +1,14 @@
 // Claim trees, and what a credential says beside its claims.
 ghost use Rattle.std.specs.Prelude.{◌≡◌, true, IfOk};
 ghost use Rattle.claim_tree.specs.Tree.{is_claim};
-ghost use Rattle.claim_tree.specs.Owned.{tree_of};
+ghost use Rattle.owned_tree.specs.Owned.{tree_of};
 
 use crate::told::{Call, are_told};
 use claim_tree::{
-    Address, ClaimNode, ClaimView, Error, Facts, Format, KeyName, Name, NoMemory, OwnedMember,
-    OwnedNode, OwnedTree, PlainTree, Shape, SignAlg, Step,
+    Address, ClaimNode, ClaimView, Error, Facts, Format, KeyName, Name, NoMemory, PlainTree, Shape,
+    SignAlg, Step,
 };
+use owned_tree::{OwnedMember, OwnedNode, OwnedTree};
 use std::alloc::Global;
 use std::fmt::Write;
 use std::test::Fail;

@@ -1,0 +1,4 @@
+pub mod Bench
+pub mod KeysFile
+pub mod Refusals
+pub mod code

@@ -1,0 +1,2 @@
+-- What the types of this crate with private fields hold.
+pub mod Keys
