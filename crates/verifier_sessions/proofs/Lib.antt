@@ -4,9 +4,10 @@ pub mod Later
 pub mod Told
 pub mod Steps
 pub mod Keeping
-pub mod Texts
 pub mod Maps
 pub mod Counts
+pub mod Queue
+pub mod Sizes
 pub mod Rules
 pub mod Runs
 pub mod Turns

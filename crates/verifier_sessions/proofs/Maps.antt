@@ -1,5 +1,6 @@
 -- What a table has at a text after a change of one entry, and after those that are forgotten were taken out.
-use Rattle.std.proofs.Common.{◌≡◌, ℕ, refl, ap, sym, ◌∙◌, Bool, false, List, Option, Some, None, option_map}
+use Rattle.std.proofs.Common.{◌≡◌, ℕ, refl, ap, sym, ◌∙◌, Bool, true, false, List, Option, Some, None}
+use Rattle.std.proofs.Common.{option_map}
 use Rattle.std.proofs.Common.{is_some, IsSome, if◌then◌else◌, inl, inr, bytes_eq, String, string_bytes}
 use Rattle.std.proofs.Common.{string_cmp, rules, true≢false}
 use Rattle.std.specs.BTreeMap.{BTreeMap, get, get_by_text, Updates, UpdatesBy}
@@ -62,22 +63,75 @@ none_kept_moment now (Some t) e = elim (cases_Bool (is_kept now t)) [
 
 pub session_forgotten : {A : Type 0} (bs : List ℕ) (now : ℕ) (m n : BTreeMap (String A) Session)
     → UpdatesBy string_cmp (text_cmp bs) m n None → is_some (kept_record now (held m bs)) ≡ false
-    → (q : Text) → kept_record now (held n q) ≡ kept_record now (held m q)
+    → (q : Text) → held n q ≡ (if bytes_eq bs q then kept_record now (held m q) else held m q)
 session_forgotten bs now m n u e q =
     rw (btree_map_updates_text bs m n None u q) (elim (cases_Bool (bytes_eq bs q)) [
-      | inl f ↦ let same : bs ≡ q = (bytes_eq-Decides bs q).0 f in rw (f, ← same) (none_kept now (held m bs) e)
+      | inl f ↦ let same : bs ≡ q = (bytes_eq-Decides bs q).0 f in
+          rw (f, ← same) (none_kept now (held m bs) e)
       | inr f ↦ rw f refl
     ])
 
 pub nonce_forgotten : {A : Type 0} (bs : List ℕ) (now : ℕ) (m n : BTreeMap (String A) ℕ)
     → UpdatesBy string_cmp (text_cmp bs) m n None → is_some (kept_moment now (get_by_text m bs)) ≡ false
-    → (q : Text) → kept_moment now (get_by_text n q) ≡ kept_moment now (get_by_text m q)
+    → (q : Text) → get_by_text n q
+    ≡ (if bytes_eq bs q then kept_moment now (get_by_text m q) else get_by_text m q)
 nonce_forgotten bs now m n u e q =
     rw (btree_map_updates_text bs m n None u q) (elim (cases_Bool (bytes_eq bs q)) [
       | inl f ↦ let same : bs ≡ q = (bytes_eq-Decides bs q).0 f in
           rw (f, ← same) (none_kept_moment now (get_by_text m bs) e)
       | inr f ↦ rw f refl
     ])
+
+-- What is kept stays.
+some_kept : (now : ℕ) (o : Option Record) → is_some (kept_record now o) ≡ true → o ≡ kept_record now o
+some_kept now None e = refl
+some_kept now (Some r) e = elim (cases_Bool (is_kept now r.opened)) [
+  | inl k ↦ rw k refl
+  | inr k ↦ absurd (true≢false (sym e ∙ ap (λ b. is_some {T = Record} (if b then Some r else None)) k))
+]
+
+some_kept_moment : (now : ℕ) (o : Option ℕ) → is_some (kept_moment now o) ≡ true → o ≡ kept_moment now o
+some_kept_moment now None e = refl
+some_kept_moment now (Some t) e = elim (cases_Bool (is_kept now t)) [
+  | inl k ↦ rw k refl
+  | inr k ↦ absurd (true≢false (sym e ∙ ap (λ b. is_some {T = ℕ} (if b then Some t else None)) k))
+]
+
+pub session_stays : {A : Type 0} (bs : List ℕ) (now : ℕ) (m : BTreeMap (String A) Session)
+    → is_some (kept_record now (held m bs)) ≡ true
+    → (q : Text) → held m q ≡ (if bytes_eq bs q then kept_record now (held m q) else held m q)
+session_stays bs now m e q = elim (cases_Bool (bytes_eq bs q)) [
+  | inl f ↦ let same : bs ≡ q = (bytes_eq-Decides bs q).0 f in rw (f, ← same) (some_kept now (held m bs) e)
+  | inr f ↦ rw f refl
+]
+
+pub nonce_stays : {A : Type 0} (bs : List ℕ) (now : ℕ) (m : BTreeMap (String A) ℕ)
+    → is_some (kept_moment now (get_by_text m bs)) ≡ true → (q : Text) → get_by_text m q
+    ≡ (if bytes_eq bs q then kept_moment now (get_by_text m q) else get_by_text m q)
+nonce_stays bs now m e q = elim (cases_Bool (bytes_eq bs q)) [
+  | inl f ↦ let same : bs ≡ q = (bytes_eq-Decides bs q).0 f in
+      rw (f, ← same) (some_kept_moment now (get_by_text m bs) e)
+  | inr f ↦ rw f refl
+]
+
+-- What is forgotten counts for nothing.
+pub kept_either : (now : ℕ) (b : Bool) (o : Option Record)
+    → kept_record now (if b then kept_record now o else o) ≡ kept_record now o
+kept_either now false o = refl
+kept_either now true None = refl
+kept_either now true (Some r) = elim (cases_Bool (is_kept now r.opened)) [
+  | inl k ↦ rw k (rw k refl)
+  | inr k ↦ rw k refl
+]
+
+pub kept_either_moment : (now : ℕ) (b : Bool) (o : Option ℕ)
+    → kept_moment now (if b then kept_moment now o else o) ≡ kept_moment now o
+kept_either_moment now false o = refl
+kept_either_moment now true None = refl
+kept_either_moment now true (Some t) = elim (cases_Bool (is_kept now t)) [
+  | inl k ↦ rw k (rw k refl)
+  | inr k ↦ rw k refl
+]
 
 -- After a new session was put at an id.
 pub session_put : {A : Type 0} (k : String A) (bs nonce : List ℕ) (now : ℕ) (w : Session)

@@ -1,10 +1,10 @@
 -- What one event more changes of what a history says of an id and of a nonce.
 use Rattle.std.proofs.Common.{◌≡◌, ℕ, refl, ap, ◌+◌, max, Bool, true, false, List, [], ◌∷◌, ◌++◌, Option}
 use Rattle.std.proofs.Common.{Some, None, option_map, is_none, nat_lt, if◌then◌else◌, append-nil, inl, inr}
-use Rattle.std.proofs.Common.{bytes_eq, true≢false}
+use Rattle.std.proofs.Common.{bytes_eq, true≢false, length, arith}
 use Rattle.std.proofs.lemmas.Bool.{cases_Bool}
 use Rattle.verifier_sessions.specs.History.{Text, History, Told, Open, Post, Look, latest, counted, nonce_of}
-use Rattle.verifier_sessions.specs.History.{rule_of}
+use Rattle.verifier_sessions.specs.History.{rule_of, told, kept, is_kept}
 use Rattle.verifier_sessions.specs.Stands.{
   events_of,
   last_opening,
@@ -98,3 +98,16 @@ drawn-refused h m i n q r = rw r refl
 pub drawn-open : (h : History) (m : ℕ) (i n q : Text) → is_none (rule_of h m i n) ≡ true
     → drawn ((m, Open i n) ∷ h) q ≡ (if bytes_eq n q then Some (max m (latest h)) else drawn h q)
 drawn-open h m i n q r = rw r (elim (cases_Bool (bytes_eq n q)) [ inl e ↦ rw e refl | inr e ↦ rw e refl ])
+
+-- What is kept of the openings.
+pub kept-refused : (h : History) (m : ℕ) (i n : Text) (now : ℕ) → is_none (rule_of h m i n) ≡ false
+    → kept now (told ((m, Open i n) ∷ h)) ≡ kept now (told h)
+kept-refused h m i n now r = rw r refl
+
+pub kept-open : (h : History) (m : ℕ) (i n : Text) (now : ℕ) → is_none (rule_of h m i n) ≡ true
+    → length (kept now (told ((m, Open i n) ∷ h)))
+    ≡ (if is_kept now (max m (latest h)) then 1 else 0) + length (kept now (told h))
+kept-open h m i n now r = rw r (elim (cases_Bool (is_kept now (max m (latest h)))) [
+  | inl e ↦ rw e (omega arith)
+  | inr e ↦ rw e (omega arith)
+])

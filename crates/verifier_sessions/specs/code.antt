@@ -1,2 +1,4 @@
+pub mod Keeps
 pub mod Owned
+pub mod Queue
 pub mod Records

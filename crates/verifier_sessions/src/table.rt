@@ -1,11 +1,13 @@
 // The table of sessions.
-ghost use Rattle.std.specs.Prelude.{◌≡◌, [], ◌∷◌, ◌||◌, IfOk, OnOk, OnErr, Some, is_some, IsSome, max, nat_le, count_by, string_cmp, if◌then◌else◌, OnSome, ◌<◌};
+ghost use Rattle.std.specs.Prelude.{◌≡◌, [], ◌∷◌, ◌++◌, ◌||◌, IfOk, OnOk, OnErr, Some, is_some, IsSome};
+ghost use Rattle.std.specs.Prelude.{max, false, string_cmp, if◌then◌else◌, ◌<◌, ◌≤◌, ℕ, List, drop};
 ghost use Rattle.std.specs.Option.{option_map};
-ghost use Rattle.std.specs.VecDeque.{deque_len};
-ghost use Rattle.std.specs.BTreeMap.{get_by_text, values, IsOrdered};
+ghost use Rattle.std.specs.VecDeque.{deque_len, deque_capacity};
+ghost use Rattle.std.specs.BTreeMap.{get_by_text, IsOrdered};
 ghost use Rattle.std.specs.Str.{bytes_eq};
-ghost use Rattle.verifier_sessions.specs.History.{Text, Open, History, latest, is_kept, rule_of};
+ghost use Rattle.verifier_sessions.specs.History.{Text, Open, History, latest, rule_of};
 ghost use Rattle.verifier_sessions.specs.Stands.{stand, nonce};
+ghost use Rattle.verifier_sessions.specs.declared.table.Opening.{Opening};
 ghost use Rattle.verifier_sessions.specs.Replies.{reply_to, post_reply, after, replies};
 ghost use Rattle.verifier_sessions.specs.Table.{
   StandsFor,
@@ -23,6 +25,13 @@ ghost use Rattle.verifier_sessions.specs.code.Records.{
   fresh,
   posted,
 };
+ghost use Rattle.verifier_sessions.specs.code.Queue.{
+  Adds,
+  FitsQueue,
+  is_full,
+  is_oldest_kept,
+  without_oldest,
+};
 
 use crate::error::NoMemory;
 use crate::event::{Event, OpenRule, Reply, Stand};
@@ -32,14 +41,14 @@ use crate::session::{Session, is_kept};
 use std::alloc::Global;
 use std::collections::{BTreeMap, VecDeque};
 
-/// The most sessions that are kept.
+/// The most sessions that are kept, and the most that are in the table.
 const SESSIONS: usize = 1_024;
 
 /// The sessions of a site. A session is found by its id, and the moment of an opening by its nonce. The
-/// openings stand in their order.
+/// openings stand in their order, at most 1,024, and every session and nonce is that of one of them.
 ///
-/// A session that is forgotten may still be here. An opening takes out what is forgotten, in the order in
-/// which it was opened.
+/// A session that is forgotten may still be here. Where 1,024 openings are here and the oldest is forgotten,
+/// a new one takes its place.
 #[derive(Drop)]
 pub struct Table {
     alloc: Global,
@@ -163,6 +172,8 @@ impl Table {
     fn post(&mut self, moment: u64, id: &str, accepted: bool) -> Reply
         ensures latest { self.new.latest ≡ max moment self.old.latest }
         ensures nonces { self.new.nonces ≡ self.old.nonces }
+        ensures openings { self.new.openings ≡ self.old.openings }
+        ensures ordered { IsOrdered string_cmp self.old.sessions → IsOrdered string_cmp self.new.sessions }
         ensures sessions { (q : Text) → held self.new.sessions q ≡
             (if bytes_eq id.now q
             then option_map (posted (max moment self.old.latest) accepted) (held self.old.sessions q)
@@ -215,7 +226,8 @@ impl Table {
         }
     }
 
-    /// Begins a session. Out of memory, none was begun.
+    /// Begins a session. All memory is taken before the oldest opening leaves; until then the maps may have
+    /// 1,025 entries. Out of memory, none was begun.
     fn begin(&mut self, now: u64, id: &str, nonce: &str) -> Result<(), NoMemory>
         ensures latest { self.new.latest ≡ self.old.latest }
         ensures sessions { OnOk result ((q : Text) → kept_record now (held self.new.sessions q) ≡
@@ -223,10 +235,19 @@ impl Table {
             (if bytes_eq id.now q then Some (fresh nonce.now now) else held self.old.sessions q)) }
         ensures nonces { OnOk result ((q : Text) → kept_moment now (get_by_text self.new.nonces q) ≡
             kept_moment now (if bytes_eq nonce.now q then Some now else get_by_text self.old.nonces q)) }
+        ensures openings { OnOk result (Adds now self.old.openings.items self.new.openings.items) }
+        ensures fits { OnOk result (is_full now self.old.openings.items ≡ false → self.old.latest ≤ now →
+            FitsQueue self.old.latest self.old.sessions self.old.nonces self.old.openings.items →
+            FitsQueue now self.new.sessions self.new.nonces self.new.openings.items) }
         ensures out_of_memory { OnErr result (
             (q : Text) → held self.new.sessions q ≡ held self.old.sessions q) }
         ensures nonces_stay { OnErr result (
             (q : Text) → get_by_text self.new.nonces q ≡ get_by_text self.old.nonces q) }
+        ensures openings_stay { OnErr result (self.new.openings.items ≡ self.old.openings.items) }
+        ensures ordered { OnErr result (IsOrdered string_cmp self.old.sessions →
+            IsOrdered string_cmp self.new.sessions) }
+        ensures nonces_ordered { OnErr result (IsOrdered string_cmp self.old.nonces →
+            IsOrdered string_cmp self.new.nonces) }
     {
         let session = Session {
             nonce: String::from_str(self.alloc, nonce)?,
@@ -241,12 +262,12 @@ impl Table {
         };
         let own = String::from_str(self.alloc, id)?;
         let key = String::from_str(self.alloc, nonce)?;
-        self.openings.reserve(1)?;
+        reserve_one(&mut self.openings)?;
         let before = self.nonces.insert(key, now)?;
         match self.sessions.insert(own, session) {
             Ok(_) => {
-                self.openings.push_back(opening)?;
-                self.forget(now);
+                self.make_room(now);
+                self.openings.push_back_reserved(opening);
                 Ok(())
             }
             Err(_) => {
@@ -256,17 +277,44 @@ impl Table {
         }
     }
 
-    /// Takes out what is forgotten, the oldest first.
-    fn forget(&mut self, now: u64)
+    /// Takes out the oldest opening where 1,024 are there.
+    fn make_room(&mut self, now: u64)
         ensures latest { self.new.latest ≡ self.old.latest }
         ensures sessions { (q : Text) →
             kept_record now (held self.new.sessions q) ≡ kept_record now (held self.old.sessions q) }
         ensures nonces { (q : Text) →
-            kept_moment now (get_by_text self.new.nonces q) ≡ kept_moment now (get_by_text self.old.nonces q) }
+            kept_moment now (get_by_text self.new.nonces q)
+            ≡ kept_moment now (get_by_text self.old.nonces q) }
+        ensures openings { self.new.openings.items ≡ without_oldest self.old.openings.items }
+        ensures room { (deque_len self.old.openings < 1024 →
+            deque_len self.old.openings < deque_capacity self.old.openings) →
+            deque_len self.new.openings < deque_capacity self.new.openings }
+        ensures fits { (top : ℕ) (later : List Opening) → is_full now self.old.openings.items ≡ false →
+            FitsQueue top self.old.sessions self.old.nonces (self.old.openings.items ++ later) →
+            FitsQueue top self.new.sessions self.new.nonces (self.new.openings.items ++ later) }
     {
-        while let Some(opening) = pop_forgotten(&mut self.openings, now) {
-            forget_session(&mut self.sessions, now, opening.id.as_str());
-            forget_nonce(&mut self.nonces, now, opening.nonce.as_str());
+        if self.openings.len() >= SESSIONS {
+            self.forget_oldest(now);
+        }
+    }
+
+    /// Takes out the oldest opening, and its session and nonce where they are forgotten.
+    fn forget_oldest(&mut self, now: u64)
+        ensures latest { self.new.latest ≡ self.old.latest }
+        ensures sessions { (q : Text) →
+            kept_record now (held self.new.sessions q) ≡ kept_record now (held self.old.sessions q) }
+        ensures nonces { (q : Text) →
+            kept_moment now (get_by_text self.new.nonces q)
+            ≡ kept_moment now (get_by_text self.old.nonces q) }
+        ensures openings { self.new.openings.items ≡ drop 1 self.old.openings.items }
+        ensures capacity { deque_capacity self.new.openings ≡ deque_capacity self.old.openings }
+        ensures fits { (top : ℕ) (later : List Opening) → is_oldest_kept now self.old.openings.items ≡ false →
+            FitsQueue top self.old.sessions self.old.nonces (self.old.openings.items ++ later) →
+            FitsQueue top self.new.sessions self.new.nonces (self.new.openings.items ++ later) }
+    {
+        if let Some(oldest) = self.openings.pop_front() {
+            forget_session(&mut self.sessions, now, oldest.id.as_str());
+            forget_nonce(&mut self.nonces, now, oldest.nonce.as_str());
         }
     }
 
@@ -274,6 +322,8 @@ impl Table {
     fn restore(&mut self, nonce: &str, before: Option<u64>)
         ensures latest { self.new.latest ≡ self.old.latest }
         ensures sessions { self.new.sessions ≡ self.old.sessions }
+        ensures openings { self.new.openings ≡ self.old.openings }
+        ensures ordered { IsOrdered string_cmp self.old.nonces → IsOrdered string_cmp self.new.nonces }
         ensures nonces { IsSome (get_by_text self.old.nonces nonce.now) → (q : Text) →
             get_by_text self.new.nonces q ≡
             (if bytes_eq nonce.now q then before else get_by_text self.old.nonces q) }
@@ -290,21 +340,15 @@ impl Table {
         }
     }
 
+    /// Whether 1,024 sessions are kept. Where the oldest opening is, all are.
     fn is_full(&self, now: u64) -> bool
-        ensures full { result
-            ≡ nat_le 1024 (count_by (λ s. is_kept now s.opened) (values self.now.sessions)) }
-        ensures ordered { IsOrdered string_cmp self.now.sessions }
+        ensures { result ≡ is_full now self.now.openings.items }
     {
-        self.sessions.len() >= SESSIONS && self.kept_count(now) >= SESSIONS
-    }
-
-    fn kept_count(&self, now: u64) -> usize
-        ensures { result ≡ count_by (λ s. is_kept now s.opened) (values self.now.sessions) }
-    {
-        self.sessions
-            .values()
-            .filter(|session| is_kept(now, session.opened))
-            .count()
+        self.openings.len() >= SESSIONS
+            && self
+                .openings
+                .front()
+                .is_some_and(|oldest| is_kept(now, oldest.opened))
     }
 
     fn is_drawn(&self, now: u64, id: &str, nonce: &str) -> bool
@@ -315,15 +359,17 @@ impl Table {
     }
 }
 
-/// The oldest opening, where it is forgotten. It is taken out.
-fn pop_forgotten(openings: &mut VecDeque<Opening>, now: u64) -> Option<Opening>
-    ensures { OnSome result (deque_len openings.new < deque_len openings.old) }
+/// Takes the memory for one opening more, where fewer than 1,024 are there.
+fn reserve_one(openings: &mut VecDeque<Opening>) -> Result<(), NoMemory>
+    ensures items { openings.new.items ≡ openings.old.items }
+    ensures len { deque_len openings.new ≡ deque_len openings.old }
+    ensures room { OnOk result (deque_len openings.new < 1024 →
+        deque_len openings.new < deque_capacity openings.new) }
 {
-    let oldest = openings.front()?;
-    if is_kept(now, oldest.opened) {
-        return None;
+    if openings.len() < SESSIONS {
+        openings.reserve(1)?;
     }
-    openings.pop_front()
+    Ok(())
 }
 
 /// Whether a session that is kept has the id.
@@ -346,7 +392,9 @@ fn has_opening(nonces: &BTreeMap<String, u64>, now: u64, nonce: &str) -> bool
 
 /// Takes out the session of an id, where it is forgotten.
 fn forget_session(sessions: &mut BTreeMap<String, Session>, now: u64, id: &str)
-    ensures { (q : Text) → kept_record now (held sessions.new q) ≡ kept_record now (held sessions.old q) }
+    ensures sessions { (q : Text) → held sessions.new q ≡
+        (if bytes_eq id.now q then kept_record now (held sessions.old q) else held sessions.old q) }
+    ensures ordered { IsOrdered string_cmp sessions.old → IsOrdered string_cmp sessions.new }
 {
     if !has_session(sessions, now, id) {
         sessions.remove(id);
@@ -355,8 +403,10 @@ fn forget_session(sessions: &mut BTreeMap<String, Session>, now: u64, id: &str)
 
 /// Takes out a nonce, where it is forgotten.
 fn forget_nonce(nonces: &mut BTreeMap<String, u64>, now: u64, nonce: &str)
-    ensures { (q : Text) →
-        kept_moment now (get_by_text nonces.new q) ≡ kept_moment now (get_by_text nonces.old q) }
+    ensures nonces { (q : Text) → get_by_text nonces.new q ≡
+        (if bytes_eq nonce.now q then kept_moment now (get_by_text nonces.old q)
+        else get_by_text nonces.old q) }
+    ensures ordered { IsOrdered string_cmp nonces.old → IsOrdered string_cmp nonces.new }
 {
     if !has_opening(nonces, now, nonce) {
         nonces.remove(nonce);

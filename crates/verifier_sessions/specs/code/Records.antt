@@ -1,6 +1,6 @@
 -- What the table keeps of a session, and what a history says of it in the same words. Only the crate's own
 -- proofs read this.
-use Rattle.std.specs.Prelude.{ℕ, ◌≡◌, ◌+◌, Bool, true, false, ◌&&◌, List, Option, Some, None, nat_lt, min}
+use Rattle.std.specs.Prelude.{ℕ, ◌+◌, Bool, true, false, ◌&&◌, List, Option, Some, None, nat_lt, min}
 use Rattle.std.specs.Prelude.{if◌then◌else◌, not, find, String, string_bytes}
 use Rattle.std.specs.Option.{option_map}
 use Rattle.std.specs.Str.{bytes_eq}
@@ -8,8 +8,7 @@ use Rattle.std.specs.BTreeMap.{BTreeMap, get_by_text}
 use Rattle.verifier_sessions.specs.declared.event.Stand.{Stand}
 use Rattle.verifier_sessions.specs.declared.event.Stand.TheVariants.{Unknown}
 use Rattle.verifier_sessions.specs.declared.session.Session.{Session}
-use Rattle.verifier_sessions.specs.declared.table.Table.{Table}
-use Rattle.verifier_sessions.specs.History.{Text, History, Told, told, latest, is_kept, nonce_of}
+use Rattle.verifier_sessions.specs.History.{Text, History, Told, told, is_kept, nonce_of}
 use Rattle.verifier_sessions.specs.Stands.{
   events_of,
   last_opening,
@@ -82,14 +81,6 @@ record_stand now (Some r) = stand_with now r.opened r.refused r.accepted
 abbrev pub record_nonce : ℕ → Option Record → Option Text
 record_nonce now None = None
 record_nonce now (Some r) = if is_kept now r.opened then Some r.nonce else None
-
--- A table keeps what a history says of each id and each nonce.
-pub record Keeps (t : Table) (h : History) : Type 0 where
-  pub latest_is : t.latest ≡ latest h
-  pub sessions_are : (id : Text) → kept_record t.latest (held t.sessions id)
-      ≡ kept_record t.latest (record_of h id)
-  pub nonces_are : (nonce : Text) → kept_moment t.latest (get_by_text t.nonces nonce)
-      ≡ kept_moment t.latest (drawn h nonce)
 
 -- What an opening puts at an id.
 abbrev pub fresh : Text → ℕ → Record
