@@ -11,6 +11,7 @@ mod files;
 mod laws;
 mod printing;
 mod refusals;
+mod replies;
 mod reply;
 mod stop;
 
@@ -20,5 +21,6 @@ pub use laws::{
 };
 pub use printing::{close, finish};
 pub use refusals::{file_refused, query_refused, too_long};
+pub use replies::{reply_of, reply_with_last};
 pub use reply::Reply;
 pub use stop::Stop;

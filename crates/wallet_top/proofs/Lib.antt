@@ -1,3 +1,1 @@
-pub mod CommandRuns
-pub mod Feeds
 pub mod NoFaultPassed

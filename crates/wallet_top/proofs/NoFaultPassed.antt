@@ -10,9 +10,9 @@ use Rattle.runs.proofs.Insisting.{insists_bind, insists_gives, insists_stops, in
 use Rattle.serde_json.specs.Data.{Data}
 use Rattle.wallet_top.specs.Command.{try_query, list_credentials}
 use Rattle.wallet_top.specs.Laws.{PassesNoFault}
-use Rattle.wallet_top.specs.Listing.{read_credential}
-use Rattle.wallet_top.specs.QueryFile.{json_in, read_query}
-use Rattle.wallet_top.specs.Wallet.{Entry, read_wallet}
+use Rattle.wallet_files.specs.CredentialFile.{read_credential}
+use Rattle.wallet_files.specs.QueryFile.{json_in, read_query}
+use Rattle.wallet_files.specs.Wallet.{Entry, read_wallet}
 
 fits : (name : List ℕ) (answer : File) → Insists (fitting name answer)
 fits name (whole bytes) = insists_gives _ bytes

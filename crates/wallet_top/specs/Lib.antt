@@ -1,11 +1,6 @@
 pub mod Command
-pub mod CredentialFile
 pub mod Laws
-pub mod Limits
 pub mod Listing
-pub mod Met
 pub mod Program
-pub mod QueryFile
 pub mod Try
-pub mod Wallet
 pub mod code

@@ -1,21 +1,19 @@
 -- `list QUERY WALLET`: which credentials of a wallet have what a query of one credential asks for, and which
 -- cannot be read (OpenID for Verifiable Presentations 1.0, sections 6.4.1 and 7).
-use Rattle.std.specs.Prelude.{ℕ, ◌+◌, List, [], ◌∷◌, ◌++◌, Bool, true, false, Option, Result, codes}
+use Rattle.std.specs.Prelude.{ℕ, ◌+◌, List, [], ◌∷◌, ◌++◌, Bool, true, false, Result, codes}
 use Rattle.std.specs.Fmt.{decimal}
 use Rattle.std.specs.List.{list_any}
 use Rattle.dcql_query.specs.Meaning.{query_of}
-use Rattle.dcql_query.specs.Query.{Query, Credential}
+use Rattle.dcql_query.specs.Query.{Query}
 use Rattle.outside.specs.declared.status.Status.TheVariants.{Done, NoOption}
-use Rattle.program_steps.specs.Files.{read_file}
 use Rattle.program_steps.specs.Outcome.{Outcome, ends_with, line}
 use Rattle.runs.specs.Tree.{Tree, gives, bind, each, unless}
-use Rattle.wallet_top.specs.CredentialFile.{finding_for}
-use Rattle.wallet_top.specs.Limits.{credential_limit}
-use Rattle.wallet_top.specs.QueryFile.{read_query, query_refusal, only}
-use Rattle.wallet_top.specs.Try.{match_line}
-use Rattle.wallet_top.specs.Wallet.{Entry, read_wallet}
-use Rattle.wallet_top.specs.declared.finding.Finding.{Finding}
-use Rattle.wallet_top.specs.declared.finding.Finding.TheVariants.{Unreadable, Match, NoMatch}
+use Rattle.wallet_files.specs.CredentialFile.{read_credential}
+use Rattle.wallet_files.specs.QueryFile.{read_query, query_refusal, only}
+use Rattle.wallet_files.specs.TreeLines.{match_line}
+use Rattle.wallet_files.specs.Wallet.{Entry, read_wallet}
+use Rattle.wallet_files.specs.declared.finding.Finding.{Finding}
+use Rattle.wallet_files.specs.declared.finding.Finding.TheVariants.{Unreadable, Match, NoMatch}
 
 -- ---- what is printed
 
@@ -45,11 +43,6 @@ abbrev pub listed : List Finding → Outcome
 listed findings = list_end (list_any is_match findings) (finding_lines 0 findings)
 
 -- ---- the command
-
--- The file of an entry of the wallet is read.
-abbrev pub read_credential : Option Credential → Entry → Tree Outcome Finding
-read_credential wanted entry = bind (read_file credential_limit entry.file) (λ bytes.
-    gives (finding_for wanted entry.format bytes))
 
 -- Once all files are read, the query is looked at, and then what the credentials came to is printed.
 abbrev pub list_answer : Result Query ℕ → List Finding → Tree Outcome Outcome

@@ -1,5 +1,3 @@
--- What the types of this crate mean, and how its errors go together.
-pub mod LineStops
+-- What the types of this crate mean, and what its steps come to.
 pub mod Commands
-pub mod Entries
 pub mod Matches

@@ -5,20 +5,11 @@
 #![tactic(auto)]
 
 mod command;
-mod credential_file;
-mod finding;
 mod laws;
-mod limits;
-mod line_stop;
 mod listing;
-mod matching;
 mod program;
-mod query_file;
-mod replies;
 mod top;
-mod tree_lines;
 mod trying;
-mod wallet;
 
 pub use laws::passes_no_fault;
 pub use program::exit_code;

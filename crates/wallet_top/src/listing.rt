@@ -7,20 +7,18 @@ ghost use Rattle.runs.specs.Runs.{Runs};
 ghost use Rattle.runs.specs.Tree.{each};
 ghost use Rattle.runs.specs.World.{World};
 ghost use Rattle.wallet_top.specs.Listing.{finding_line, finding_lines, is_match, listed, list_answer};
-ghost use Rattle.wallet_top.specs.Listing.{list_tree, read_credential};
-ghost use Rattle.wallet_top.specs.code.Entries.{meant};
+ghost use Rattle.wallet_top.specs.Listing.{list_tree};
+ghost use Rattle.wallet_files.specs.CredentialFile.{read_credential};
+ghost use Rattle.wallet_files.specs.code.Entries.{meant};
 
-use crate::credential_file::examine_for;
-use crate::finding::Finding;
-use crate::limits::CREDENTIAL_LIMIT;
-use crate::query_file::{only, query_by, query_refusal, read_query};
-use crate::replies::reply_with_last;
-use crate::tree_lines::add_match;
-use crate::wallet::{Entry, read_wallet};
 use dcql_query::{CredentialQuery, Query};
 use outside::{Status, Store};
-use program_steps::{Reply, Stop, read_file};
+use program_steps::{Reply, Stop, reply_with_last};
 use std::alloc::{AllocError, Global};
+use wallet_files::{
+    Entry, Finding, add_match, only, query_by, query_refusal, read_credential, read_query,
+    read_wallet,
+};
 
 /// The reply to `list` with these names of a query file and a wallet file.
 ///
@@ -60,21 +58,6 @@ fn read_credentials<S: Store>(
         findings.push(finding)?;
     }
     Ok(findings)
-}
-
-// What the credential of an entry comes to.
-fn read_credential<S: Store>(
-    alloc: Global,
-    entry: &Entry,
-    wanted: Option<&CredentialQuery>,
-    store: &mut S,
-) -> Result<Finding, Stop>
-    ensures { (w : World) → Runs (read_credential (option_copied wanted.entry) (meant entry.now))
-        (record w { store = S.state store.old }) (record w { store = S.state store.new }) (ending (λ finding.
-        finding) result) }
-{
-    let bytes = read_file(alloc, store, entry.file.as_str(), CREDENTIAL_LIMIT)?;
-    Ok(examine_for(alloc, wanted, entry.format, bytes)?)
 }
 
 // The reply where all files are read: the query's refusal, or the list of these findings.

@@ -8,15 +8,11 @@ ghost use Rattle.serde_json.specs.View.{view};
 ghost use Rattle.wallet_top.specs.Try.{try_lines, try_tree};
 ghost use Rattle.wallet_top.specs.code.Matches.{ended};
 
-use crate::limits::FILE_LIMIT;
-use crate::line_stop::line_stop;
-use crate::query_file::{only, query_by, query_refusal, read_query};
-use crate::replies::{reply_of, reply_with_last};
-use crate::tree_lines::matches_in;
 use outside::{Status, Store};
-use program_steps::{Reply, Stop, read_file};
+use program_steps::{Reply, Stop, read_file, reply_of, reply_with_last};
 use serde_json::Value;
 use std::alloc::{AllocError, Global};
+use wallet_files::{FILE_LIMIT, line_stop, matches_in, only, query_by, query_refusal, read_query};
 
 /// The reply to `try` with these names of a query file and a trees file.
 ///

@@ -1,6 +1,6 @@
 use Rattle.std.proofs.lemmas.Result.{err_from_is_err_and}
 use Rattle.runs.proofs.Trees.{runs_gives, runs_out}
-use Rattle.wallet_top.proofs.CommandRuns.{runs_refused, runs_passed}
+use Rattle.wallet_files.proofs.CommandRuns.{runs_refused, runs_passed}
 use Rattle.wallet_top.proofs.listing.list_answer.Goals as goal
 
 pub returns-in_err-refusal : goal.returns-in_err-refusal

@@ -6,8 +6,8 @@ use Rattle.program_steps.specs.code.Endings.{early}
 use Rattle.runs.proofs.Each.{one_more, one_stop, none_left}
 use Rattle.runs.proofs.Trees.{runs_out}
 use Rattle.runs.specs.Runs.{out_of_memory}
-use Rattle.wallet_top.specs.Listing.{read_credential}
-use Rattle.wallet_top.specs.code.Entries.{meant}
+use Rattle.wallet_files.specs.CredentialFile.{read_credential}
+use Rattle.wallet_files.specs.code.Entries.{meant}
 use Rattle.wallet_top.proofs.listing.read_credentials.Goals as goal
 
 pub loop-entry-preserved : goal.loop-entry-preserved

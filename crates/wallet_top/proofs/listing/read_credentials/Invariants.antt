@@ -2,8 +2,8 @@ use Rattle.std.proofs.Common.{map}
 use Rattle.std.specs.Option.{option_copied}
 use Rattle.runs.specs.World.{World}
 use Rattle.runs.proofs.Each.{IsRest}
-use Rattle.wallet_top.specs.Listing.{read_credential}
-use Rattle.wallet_top.specs.code.Entries.{meant}
+use Rattle.wallet_files.specs.CredentialFile.{read_credential}
+use Rattle.wallet_files.specs.code.Entries.{meant}
 use Rattle.wallet_top.proofs.listing.read_credentials.Given as goal
 
 -- a run of what is left is a run of the whole, with what was found before it

@@ -3,10 +3,11 @@ use Rattle.std.proofs.lemmas.Result.{err_from_is_err_and}
 use Rattle.dcql_query.specs.Query.{Credential}
 use Rattle.base_forms.specs.Lines.{lines_of}
 use Rattle.runs.proofs.Trees.{runs_gives, runs_out}
-use Rattle.wallet_top.specs.Try.{found, match_lines, matching}
-use Rattle.wallet_top.specs.QueryFile.{only}
+use Rattle.wallet_top.specs.Try.{found}
+use Rattle.wallet_files.specs.TreeLines.{match_lines, matching}
+use Rattle.wallet_files.specs.QueryFile.{only}
 use Rattle.wallet_top.specs.code.Matches.{ended}
-use Rattle.wallet_top.proofs.CommandRuns.{runs_lines, runs_bad_line, runs_refused, runs_passed}
+use Rattle.wallet_files.proofs.CommandRuns.{runs_lines, runs_bad_line, runs_refused, runs_passed}
 use Rattle.wallet_top.proofs.trying.try_lines.Goals as goal
 
 ended_is : (numbers : List ℕ) → ended (match_lines numbers) ≡ found numbers

@@ -1,0 +1,2 @@
+pub mod CommandRuns
+pub mod Feeds
