@@ -58,7 +58,12 @@ def tagged(value):
 
 def item(number, name, value):
     return tagged(
-        {"digestID": number, "random": number.to_bytes(16, "big"), "elementIdentifier": name, "elementValue": value}
+        {
+            "digestID": number,
+            "random": number.to_bytes(16, "big"),
+            "elementIdentifier": name,
+            "elementValue": value,
+        }
     )
 
 
@@ -67,7 +72,8 @@ def digest(item):
 
 
 def document(spaces, more_digests=None, **more):
-    """The text of a document with these lists of elements, by their namespaces, and with more digests and members."""
+    """The text of a document with these lists of elements, by their namespaces, and with more digests and
+    members."""
     items, digests, number = {}, {}, 0
     for space, elements in spaces.items():
         items[space] = [item(number + i, name, value) for i, (name, value) in enumerate(elements)]

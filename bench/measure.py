@@ -14,9 +14,9 @@ WALLET = os.path.join(HERE, "..", "crates", "vpwallet", "out", "vpwallet")
 def run(words):
     """The output, the seconds of processor time and the peak of memory, in megabytes, of one run.
 
-    Neither program has a second thread or waits for anything but its files, so on an idle machine this is the time that passes; on
-    a busy one it is steadier. `time` starts the program, since the peak that the system counts for a child begins with what its
-    parent held."""
+    Neither program has a second thread or waits for anything but its files, so on an idle machine this is
+    the time that passes; on a busy one it is steadier. `time` starts the program, since the peak that the
+    system counts for a child begins with what its parent held."""
     with tempfile.NamedTemporaryFile("r") as peak:
         before = resource.getrusage(resource.RUSAGE_CHILDREN)
         done = subprocess.run(

@@ -1,7 +1,8 @@
-"""What a site answers to a list of events, by the rule itself: a list of events that is filtered anew at each step.
+"""What a site answers to a list of events, by the rule itself: a list of events that is filtered anew at
+each step.
 
-It has no table: every answer is computed from the events so far, each with the moment that it counts as and whether it opened a
-session. It is the second program of `bench/random_sessions`."""
+It has no table: every answer is computed from the events so far, each with the moment that it counts as and
+whether it opened a session. It is the second program of `bench/random_sessions`."""
 
 
 def kept(told, now):
@@ -16,7 +17,8 @@ def stand(told, now, name):
     if not openings:
         return "unknown"
     opened = of_id[openings[-1]]["moment"]
-    posts = [e["yes"] for e in of_id[openings[-1] + 1 :] if e["word"] == "post" and e["moment"] < opened + 300]
+    later = of_id[openings[-1] + 1 :]
+    posts = [e["yes"] for e in later if e["word"] == "post" and e["moment"] < opened + 300]
     refused = posts.index(True) if True in posts else len(posts)
     if now >= opened + 3600:
         return "unknown"

@@ -40,7 +40,8 @@ class Disclosures:
 
 def credential(members, texts):
     header = {"alg": "ES256", "kid": "p1", "typ": "dc+sd-jwt"}
-    payload = {"exp": 1800000000, "iss": "https://pid.example", "nbf": 1700000000, "vct": "urn:eudi:pid:1", **members}
+    plain = {"exp": 1800000000, "iss": "https://pid.example", "nbf": 1700000000, "vct": "urn:eudi:pid:1"}
+    payload = {**plain, **members}
     message = ".".join([encoded(header), encoded(payload), url64(bytes(64))])
     return "~".join([message, *texts, ""])
 
@@ -62,7 +63,8 @@ def flat(order):
 
 
 def chains(order):
-    """16 chains of 64 disclosures inside one another, whose texts stand in this order of those that begin inside."""
+    """16 chains of 64 disclosures inside one another, whose texts stand in this order of those that begin
+    inside."""
     made = Disclosures()
     digests = []
     for chain in range(DISCLOSURES // LEVELS):
@@ -82,7 +84,7 @@ def shuffled(items):
 
 
 def mixed(seed):
-    """Many small disclosures, some large ones, lists with placeholders, objects with digests; as long as may be."""
+    """Many small disclosures, some large ones, lists with placeholders, objects with digests; all it may have."""
     draw = random.Random(seed)
     made = Disclosures()
     digests = [made.add("small%d" % i, "value %d" % draw.randrange(10**6)) for i in range(500)]

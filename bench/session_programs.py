@@ -14,7 +14,8 @@ PLAIN = os.path.join(PLAIN_FOLDER, "out", "release", "plain_sessions")
 
 def build_check():
     if not os.path.exists(CHECK):
-        subprocess.run(["rt", "run"], cwd=CRATE, stdin=subprocess.DEVNULL, stdout=subprocess.DEVNULL, check=True)
+        nothing = subprocess.DEVNULL
+        subprocess.run(["rt", "run"], cwd=CRATE, stdin=nothing, stdout=nothing, check=True)
 
 
 def build_plain():
@@ -23,6 +24,9 @@ def build_plain():
     if missing:
         return "not installed: " + " ".join(missing)
     done = subprocess.run(
-        ["cargo", "build", "--release", "--offline", "--quiet"], cwd=PLAIN_FOLDER, capture_output=True, text=True
+        ["cargo", "build", "--release", "--offline", "--quiet"],
+        cwd=PLAIN_FOLDER,
+        capture_output=True,
+        text=True,
     )
     return None if done.returncode == 0 else done.stderr
