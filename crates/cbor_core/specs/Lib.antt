@@ -9,4 +9,5 @@ pub mod Views
 pub mod Rules
 pub mod Refusal
 pub mod Laws
+pub mod Valid
 pub mod Seen

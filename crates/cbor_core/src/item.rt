@@ -249,9 +249,11 @@ pub struct Items<'a> {
 impl<'a> Iterator for Items<'a> {
     type Item = Item<'a>;
 
-    ghost next_gives = { YieldsFirstBy (λ i. i.bytes.now) (λ s. items_in s.rest.now) };
+    ghost use Rattle.cbor_core.specs.Seen.{span_of, items_left};
 
-    ghost remaining = { item_count (λ s. items_in s.rest.now) };
+    ghost next_gives = { YieldsFirstBy span_of items_left };
+
+    ghost remaining = { item_count items_left };
 
     fn next(&mut self) -> Option<Item<'a>> {
         if self.rest.is_empty() {
@@ -285,9 +287,11 @@ impl<'a> Entries<'a> {
 impl<'a> Iterator for Entries<'a> {
     type Item = (Item<'a>, Item<'a>);
 
-    ghost next_gives = { YieldsFirstBy (λ e. (e.0.bytes.now, e.1.bytes.now)) (λ s. pair_up (items_in s.items.rest.now)) };
+    ghost use Rattle.cbor_core.specs.Seen.{span_of, entries_left};
 
-    ghost remaining = { item_count (λ s. pair_up (items_in s.items.rest.now)) };
+    ghost next_gives = { YieldsFirstBy (λ e. (span_of e.0, span_of e.1)) entries_left };
+
+    ghost remaining = { item_count entries_left };
 
     fn next(&mut self) -> Option<(Item<'a>, Item<'a>)> {
         let key = self.items.next()?;

@@ -3,3 +3,4 @@ pub mod Seal
 pub mod code
 pub mod Refusal
 pub mod Writing
+pub mod ReadBack

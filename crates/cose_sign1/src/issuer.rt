@@ -30,7 +30,7 @@ impl<'a> Sign1<'a> {
             Some(leaf) => leaf_name(alloc, leaf)?,
             None => key_name(alloc, self.key().unwrap_or(&[]))?,
         };
-        Ok(KeyName::from_text(alloc, text.as_str())?)
+        Ok(KeyName::from(text))
     }
 
     fn leaf(&self) -> Option<&'a [u8]>

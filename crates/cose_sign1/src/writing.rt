@@ -1,6 +1,6 @@
 // Signed messages as they are written.
-ghost use Rattle.std.specs.Prelude.{◌≡◌, ◌++◌, ◌≤ℤ◌, ◌<ℤ◌, pos, negsuc, IfOk, OnOk, option_map};
-ghost use Rattle.claim_tree.specs.SignAlg.{cose_number};
+ghost use Rattle.std.specs.Prelude.{◌≡◌, ◌++◌, IfOk, OnOk, option_map};
+ghost use Rattle.cose_sign1.specs.ReadBack.{ReadsAs};
 ghost use Rattle.cose_sign1.specs.Sign1.{signed_bytes};
 ghost use Rattle.cose_sign1.specs.Writing.{protected_bytes, unprotected_bytes, payload_bytes, sign1_bytes};
 
@@ -27,7 +27,9 @@ pub fn write_sign1(
     payload: Option<&[u8]>,
     signature: &[u8],
 ) -> Result<Vec<u8>, NoMemory>
-    ensures { IfOk result (λ v. v.items ≡ sign1_bytes alg (option_map (λ b. b.now) kid.entry)
+    ensures bytes { IfOk result (λ v. v.items ≡ sign1_bytes alg (option_map (λ b. b.now) kid.entry)
+        (option_map (λ b. b.now) payload.entry) signature.now) }
+    ensures read { IfOk result (λ v. ReadsAs v.items alg (option_map (λ b. b.now) kid.entry)
         (option_map (λ b. b.now) payload.entry) signature.now) }
 {
     let protected = protected(alloc, alg)?;
@@ -60,20 +62,8 @@ fn protected(alloc: Global, alg: SignAlg) -> Result<Vec<u8>, NoMemory>
     let mut writer = Writer::new(alloc);
     writer.raw(&[161])?;
     writer.whole(1)?;
-    writer.whole(number(alg))?;
+    writer.whole(i128::from(alg.cose()))?;
     Ok(writer.finish())
-}
-
-fn number(alg: SignAlg) -> i128
-    ensures value { result ≡ cose_number alg }
-    ensures low { negsuc 70_256 ≤ℤ result }
-    ensures high { result <ℤ pos 0 }
-{
-    match alg {
-        SignAlg::Es256 => -7,
-        SignAlg::EdDsa => -8,
-        SignAlg::Bench256 => -70256,
-    }
 }
 
 fn put_unprotected(writer: &mut Writer, kid: Option<&[u8]>) -> Result<(), NoMemory>
