@@ -15,7 +15,7 @@ pub fn kid_name(alloc: Global, issuer: &str, key: &str) -> Result<KeyName, NoMem
 {
     let list = json!(in alloc; [issuer, key])?.to_string(alloc)?;
     let name = format!(in alloc; "kid:{list}")?;
-    Ok(KeyName::from_text(alloc, name.as_str())?)
+    Ok(KeyName::from(name))
 }
 
 /// `jwk:` and the compact JSON of a JSON Web Key in which every number is an integer.
@@ -25,5 +25,5 @@ pub fn jwk_name(alloc: Global, jwk: &Value) -> Result<KeyName, NoMemory>
 {
     let key = jwk.to_string(alloc)?;
     let name = format!(in alloc; "jwk:{key}")?;
-    Ok(KeyName::from_text(alloc, name.as_str())?)
+    Ok(KeyName::from(name))
 }

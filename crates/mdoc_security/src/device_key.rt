@@ -67,7 +67,7 @@ fn key_name(alloc: Global, key: Item) -> Result<KeyName, NoMemory>
     let bytes = key_bytes(alloc, key)?;
     let hex = to_hex(alloc, &bytes)?;
     let text = format!(in alloc; "cose:{hex}")?;
-    Ok(KeyName::from_text(alloc, text.as_str())?)
+    Ok(KeyName::from(text))
 }
 
 // The key in its deterministic encoding.

@@ -1,4 +1,4 @@
 pub mod FirstIndexes
-pub mod LastElements
 pub mod ValueClaims
+pub mod DisclosureParts
 pub mod ListedTexts

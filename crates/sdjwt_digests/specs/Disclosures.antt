@@ -24,12 +24,6 @@ salted (salt ∷ name ∷ value ∷ []) =
     if is_text salt then option_map (λ k. (Some k, value)) (as_str name) else None
 salted _ = None
 
--- the last of some values: in a disclosure, its value
-abbrev pub last_of : List Data → Option Data
-last_of [] = None
-last_of (d ∷ []) = Some d
-last_of (d ∷ e ∷ ds) = last_of (e ∷ ds)
-
 -- the JSON value of which a text is the base64url
 abbrev pub json_in : Utf8 → Option Data
 json_in text = option_and_then json_of (url64_bytes text)

@@ -1,13 +1,12 @@
 // A disclosure.
-ghost use Rattle.std.specs.Prelude.{◌≡◌, true, IfOk, List, map, option_map, option_and_then, string_bytes};
+ghost use Rattle.std.specs.Prelude.{◌≡◌, [], ◌∷◌, true, IfOk, map, option_map, string_bytes};
 ghost use Rattle.serde_json.specs.View.{view};
 ghost use Rattle.claim_tree.specs.Tree.{is_claim};
 ghost use Rattle.claim_tree.specs.Plain.{plain};
-ghost use Rattle.json_forms.specs.Look.{elements_of};
-ghost use Rattle.sdjwt_digests.specs.Disclosures.{json_in, salted, last_of, digest_of};
+ghost use Rattle.sdjwt_digests.specs.Disclosures.{json_in, salted, digest_of};
 
 use base_forms::{HashName, from_url64, to_url64};
-use json_forms::{elements, read_json};
+use json_forms::read_json;
 use serde_json::Value;
 use std::alloc::{AllocError, Global};
 
@@ -32,17 +31,13 @@ impl Disclosure {
         let Some(json) = json_in(alloc, text)? else {
             return Ok(None);
         };
-        let Some((name, _)) = salted(&json) else {
+        let Value::Array(parts) = json else {
             return Ok(None);
         };
-        let name = match name {
-            Some(name) => Some(String::from_str(alloc, name)?),
-            None => None,
+        let Some((name, value)) = salted(parts) else {
+            return Ok(None);
         };
         let digest = digest_of(alloc, hash, text)?;
-        let Some(value) = last_element(json) else {
-            return Ok(None);
-        };
         Ok(Some(Disclosure {
             digest,
             name,
@@ -92,46 +87,42 @@ fn digest_of(alloc: Global, hash: HashName, text: &str) -> Result<String, AllocE
     }
 }
 
-// The last element of a list.
-fn last_element(json: Value) -> Option<Value>
-    ensures { option_map view result ≡ last_of (elements_of (view json)) }
+// The name and the value that follow the salt.
+fn salted(parts: Vec<Value>) -> Option<(Option<String>, Value)>
+    ensures { option_map (λ p. (option_map string_bytes p.0, view p.1)) result ≡ salted
+        (map view parts.items) }
 {
-    match json {
-        Value::Array(list) => last_of(list),
-        Value::Null | Value::Bool(_) | Value::Number(_) | Value::String(_) | Value::Object(_) =>
-            None,
+    match <[Value; 2]>::try_from(parts) {
+        Ok([salt, value]) => element(salt, value),
+        Err(parts) => match <[Value; 3]>::try_from(parts) {
+            Ok([salt, name, value]) => member(salt, name, value),
+            Err(_parts) => None,
+        },
     }
 }
 
-fn last_of(list: Vec<Value>) -> Option<Value>
-    ensures { option_map view result ≡ last_of (map view list.items) }
+// `[salt, value]`: an element.
+fn element(salt: Value, value: Value) -> Option<(Option<String>, Value)>
+    ensures { option_map (λ p. (option_map string_bytes p.0, view p.1)) result ≡ salted
+        (view salt ∷ view value ∷ []) }
 {
-    let mut list = list;
-    list.pop()
+    if salt.is_string() {
+        Some((None, value))
+    } else {
+        None
+    }
 }
 
-// The name and the value that follow the salt.
-fn salted(json: &Value) -> Option<(Option<&str>, &Value)>
-    ensures { option_map (λ p. (option_map (λ s. s.now) p.0, view p.1.now)) result ≡ salted
-        (elements_of (view json.now)) }
+// `[salt, name, value]`: a member.
+fn member(salt: Value, name: Value, value: Value) -> Option<(Option<String>, Value)>
+    ensures { option_map (λ p. (option_map string_bytes p.0, view p.1)) result ≡ salted
+        (view salt ∷ view name ∷ view value ∷ []) }
 {
-    match elements(json) {
-        [salt, value] => {
-            if salt.is_string() {
-                Some((None, value))
-            } else {
-                None
-            }
-        }
-        [salt, name, value] => {
-            if !salt.is_string() {
-                return None;
-            }
-            match name.as_str() {
-                Some(name) => Some((Some(name), value)),
-                None => None,
-            }
-        }
+    if !salt.is_string() {
+        return None;
+    }
+    match name {
+        Value::String(name) => Some((Some(name), value)),
         _ => None,
     }
 }

@@ -1,21 +1,19 @@
-use Rattle.std.proofs.Common.{◌≡◌, Some, option_map, sym, ap, ◌∙◌}
+use Rattle.std.proofs.Common.{◌≡◌, Option, Some, option_map, string_bytes, sym, ap, ◌∙◌}
 use Rattle.serde_json.specs.View.{view}
-use Rattle.claim_tree.specs.Tree.{is_claim}
-use Rattle.claim_tree.specs.Plain.{plain}
+use Rattle.base_forms.specs.Texts.{Utf8}
+use Rattle.serde_json.specs.Data.{Data}
 use Rattle.sdjwt_digests.specs.Disclosures.{json_in}
-use Rattle.json_forms.specs.Look.{elements_of}
+use Rattle.sdjwt_digests.proofs.DisclosureParts.{salted_parts}
 use Rattle.sdjwt_digests.proofs.ValueClaims.{json_in-claim, salted-claim}
-use Rattle.sdjwt_digests.proofs.LastElements.{same_value}
 use Rattle.sdjwt_digests.proofs.disclosure.Disclosure.read.Goals as goal
 
 pub invariant_of-result : goal.invariant_of-result
 invariant_of-result c =
+    let p : Option Utf8 × Data =
+    (option_map string_bytes c.in-Some-salted.name, view c.in-Some-salted.value) in
     let json : json_in c.args.text.now ≡ Some (view c.in-Some.json) =
     sym c.in_ok-json.ensures ∙ ap (option_map view) c.in-Some.is in
-    let same = same_value (elements_of (view c.in-Some.json)) _
-    (view c.in-Some-last_element.value) c.in-Some-last_element.ensures (sym c.in-Some-salted.ensures) in
     record {
-      sound = ap (λ d. is_claim (plain d)) same
-          ∙ salted-claim (view c.in-Some.json) _ (json_in-claim c.args.text.now (view c.in-Some.json) json)
-          (sym c.in-Some-salted.ensures);
+      sound = salted-claim (view c.in-Some.json) p (json_in-claim c.args.text.now (view c.in-Some.json) json)
+          (salted_parts c.in-Some.json c.in-Array.parts p c.in-Array.is (sym c.in-Some-salted.ensures));
     }
