@@ -28,7 +28,7 @@ use Rattle.sdjwt_disclosures.specs.MemberNames.{plain_only, top_names, any_clash
 use Rattle.sdjwt_disclosures.specs.DisclosureRules.{double_rule, reach_rule, names_rule}
 use Rattle.sdjwt_disclosures.specs.DisclosureRules.{depth_rule, own_site_rule, processing_rule}
 use Rattle.sdjwt_disclosures.specs.DisclosedTree.{sd_alg, left_out, spelled, spelled_members, spelled_payload}
-use Rattle.sdjwt_view.specs.Facts.{facts_rule}
+use Rattle.sdjwt_facts.specs.Facts.{facts_rule}
 use Rattle.sdjwt_view.specs.Reading.{Content, pieces, parts_of, has_sd_type, named_hash, hash_of}
 use Rattle.sdjwt_view.specs.Reading.{most_disclosures, disclosures_of, forms_rule, later_rule, inner_rule}
 use Rattle.sdjwt_view.specs.Reading.{either_rule, refusal_of_parts, refusal_of, content_with, members_with}

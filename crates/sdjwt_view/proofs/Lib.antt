@@ -1,4 +1,3 @@
-pub mod HolderKeys
 pub mod TextParts
 pub mod ReadSteps
 pub mod Law

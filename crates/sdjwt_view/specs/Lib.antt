@@ -1,4 +1,4 @@
-pub mod Facts
+pub use Rattle.sdjwt_facts.specs.Facts
 pub mod Reading
 pub mod Credential
 pub mod Node

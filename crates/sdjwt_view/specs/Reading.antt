@@ -23,7 +23,7 @@ use Rattle.sdjwt_digests.specs.Disclosures.{Disclosed, all_disclosed}
 use Rattle.claim_tree.specs.Parts.{Named, members_of}
 use Rattle.sdjwt_disclosures.specs.DisclosedTree.{sd_alg, spelled_payload}
 use Rattle.sdjwt_disclosures.specs.DisclosureRules.{processing_rule}
-use Rattle.sdjwt_view.specs.Facts.{facts_rule, kind_of, holder_of, first_of, past_of}
+use Rattle.sdjwt_facts.specs.Facts.{facts_rule, kind_of, holder_of, first_of, past_of}
 
 -- ---- the text: the issuer's JWS and each disclosure, each followed by `~`
 

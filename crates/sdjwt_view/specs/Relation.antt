@@ -13,7 +13,7 @@ use Rattle.sdjwt_digests.specs.ReservedNames.{is_sound, has_reserved_name}
 use Rattle.sdjwt_disclosures.specs.Spelling.{SpellsPayload, UsesEach}
 use Rattle.sdjwt_view.specs.Reading.{Content, pieces, parts_of, has_sd_type, named_hash, most_disclosures}
 use Rattle.sdjwt_view.specs.Reading.{content_with}
-use Rattle.sdjwt_view.specs.Facts.{facts_rule}
+use Rattle.sdjwt_facts.specs.Facts.{facts_rule}
 
 -- A signed message and the texts of disclosures: the payload spells the record of these members and uses each
 -- disclosure at exactly one site. No digest stands at two sites (section 7.1, step 4). The rules on types,

@@ -5,7 +5,6 @@ mod content;
 mod credential;
 mod disclosure_list;
 mod error;
-mod facts;
 mod laws;
 mod node;
 mod reader;

@@ -5,7 +5,7 @@ ghost use Rattle.claim_tree.specs.Tree.{RecordOf, is_claim};
 ghost use Rattle.claim_tree.specs.Parts.{members_of};
 ghost use Rattle.owned_tree.specs.Owned.{named_of};
 ghost use Rattle.jws_envelope.specs.Jws.{envelope};
-ghost use Rattle.sdjwt_view.specs.Facts.{facts_rule};
+ghost use Rattle.sdjwt_facts.specs.Facts.{facts_rule};
 ghost use Rattle.sdjwt_view.specs.Reading.{inner_rule, later_rule, content_from, content_with, members_with};
 ghost use Rattle.sdjwt_view.specs.code.Content.{content_in_memory};
 ghost use Rattle.sdjwt_digests.specs.Disclosure.{said};
@@ -14,11 +14,11 @@ ghost use Rattle.sdjwt_view.specs.code.Refusal.{IsInnerRefusal};
 use crate::content::Content;
 use crate::disclosure_list::{Listed, read_list};
 use crate::error::Error;
-use crate::facts::{facts_rule, first_of, holder_of, kind_of, past_of};
 use base_forms::HashName;
 use jws_envelope::Jws;
 use owned_tree::{OwnedMember, OwnedTree};
 use sdjwt_disclosures::{Disclosure, Processed, process};
+use sdjwt_facts::{facts_rule, first_of, holder_of, kind_of, past_of};
 use std::alloc::Global;
 
 // What a JWS says with the disclosures of these texts.

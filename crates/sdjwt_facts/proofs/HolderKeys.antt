@@ -8,7 +8,7 @@ use Rattle.serde_json.specs.Find.{get}
 use Rattle.serde_json.specs.Written.{has_float}
 use Rattle.base_forms.specs.Rules.{rule, first}
 use Rattle.json_forms.specs.Look.{is_wrong, is_object}
-use Rattle.sdjwt_view.specs.Facts.{is_key, is_holder, facts_rule}
+use Rattle.sdjwt_facts.specs.Facts.{is_key, is_holder, facts_rule}
 
 third : (a b c : Bool) → first {R = ℕ} (rule 15 a ∷ rule 16 b ∷ rule 17 c ∷ []) ≡ None → c ≡ false
 unfolding rule

@@ -1,7 +1,7 @@
 use Rattle.std.proofs.Common.{sym}
 use Rattle.serde_json.specs.View.{view}
-use Rattle.sdjwt_view.proofs.HolderKeys.{key_is_whole}
-use Rattle.sdjwt_view.proofs.facts.holder_of.Goals as goal
+use Rattle.sdjwt_facts.proofs.HolderKeys.{key_is_whole}
+use Rattle.sdjwt_facts.proofs.facts.holder_of.Goals as goal
 
 pub jwk_name-requires : goal.jwk_name-requires
 jwk_name-requires c =

@@ -4,8 +4,8 @@ ghost use Rattle.std.specs.Prelude.{string_bytes};
 ghost use Rattle.serde_json.specs.View.{view};
 ghost use Rattle.serde_json.specs.Find.{get};
 ghost use Rattle.json_forms.specs.Look.{is_wrong};
-ghost use Rattle.sdjwt_view.specs.Facts.{moment_of, is_moment, moment_at, is_key, is_holder, facts_rule};
-ghost use Rattle.sdjwt_view.specs.Facts.{holder_of, kind_of, first_of, past_of};
+ghost use Rattle.sdjwt_facts.specs.Facts.{moment_of, is_moment, moment_at, is_key, is_holder, facts_rule};
+ghost use Rattle.sdjwt_facts.specs.Facts.{holder_of, kind_of, first_of, past_of};
 
 use claim_tree::KeyName;
 use json_forms::{has_float, text_at};
