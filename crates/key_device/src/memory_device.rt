@@ -9,8 +9,8 @@ ghost use Rattle.key_device.specs.Calls.{Call, Tells};
 ghost use Rattle.key_device.specs.Device.{IsJudged, IsSigned, judged_as, signature_given};
 ghost use Rattle.key_device.specs.code.MemoryDevice.{meant, names_in, allowed_in, allows, record_in};
 ghost use Rattle.key_device.specs.code.MemoryDevice.{calls_of, failing_in, given_of, faults_of, state_of};
-ghost use Rattle.key_device.specs.code.MemoryDevice.{held_in, with_one, numbered, fails, faults_after, Signs};
-ghost use Rattle.key_device.specs.code.MemoryDevice.{verdict};
+ghost use Rattle.key_device.specs.code.MemoryDevice.{ChangesAllowed, ChangesFailing, with_one, numbered};
+ghost use Rattle.key_device.specs.code.MemoryDevice.{fails, faults_after, Signs, verdict};
 
 use super::allowed::{Allowed, is_allowed};
 use super::asked::{Asked, with_call};
@@ -76,7 +76,7 @@ impl MemoryDevice {
         ensures allowed { OnOk result ((n m s : List ℕ) → allows self.new n m s
             ≡ with_one self.old name.now message.now signature.now n m s) }
         ensures unchanged { OnErr result (allowed_in self.new ≡ allowed_in self.old) }
-        ensures rest { self.new ≡ record self.old { allowed = self.new.allowed } }
+        ensures rest { ChangesAllowed self.old self.new }
     {
         let allowed = Allowed::new(self.alloc, name.text(), message, signature)?;
         self.allowed.push(allowed)?;
@@ -92,7 +92,7 @@ impl MemoryDevice {
     pub fn fail_at(&mut self, call: u64) -> Result<(), NoMemory>
         ensures failing { OnOk result (failing_in self.new ≡ failing_in self.old ++ call ∷ []) }
         ensures unchanged { OnErr result (failing_in self.new ≡ failing_in self.old) }
-        ensures rest { self.new ≡ record self.old { failing = self.new.failing } }
+        ensures rest { ChangesFailing self.old self.new }
     {
         self.failing.push(call)?;
         Ok(())
@@ -195,7 +195,7 @@ impl KeyDevice for MemoryDevice {
     }
 
     fn sign(&mut self, alloc: Global, name: &KeyName, message: &[u8]) -> Result<Vec<u8>, SignError>
-        requires { IsSome (held_in self.old.names.items name.now) }
+        requires { IsSome ((state_of self.old).held name.now) }
         ensures signed { IsSigned name.now message.now (state_of self.old) (state_of self.new)
             (signature_given result) }
 

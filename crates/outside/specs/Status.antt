@@ -2,8 +2,8 @@
 use Rattle.std.specs.Prelude.{ℕ}
 use Rattle.outside.specs.declared.status.Status.{Status}
 use Rattle.outside.specs.declared.status.Status.TheVariants.{Done, Usage, RequestRefused, NoOption, ReadFault}
-use Rattle.outside.specs.declared.status.Status.TheVariants.{WriteFault, FileRefused, TooLong, NoMemory}
-use Rattle.outside.specs.declared.status.Status.TheVariants.{NotOne}
+use Rattle.outside.specs.declared.status.Status.TheVariants.{WriteFault, DeviceFault, FileRefused, TooLong}
+use Rattle.outside.specs.declared.status.Status.TheVariants.{NoMemory, NotOne}
 
 abbrev pub code_of : Status → ℕ
 code_of Done = 0
@@ -12,6 +12,7 @@ code_of RequestRefused = 3
 code_of NoOption = 5
 code_of ReadFault = 6
 code_of WriteFault = 7
+code_of DeviceFault = 8
 code_of FileRefused = 12
 code_of TooLong = 14
 code_of NoMemory = 15

@@ -17,6 +17,8 @@ pub enum Status {
     ReadFault,
     /// The text could not be written.
     WriteFault,
+    /// The device of keys failed.
+    DeviceFault,
     /// A line of a file is not of the file's form.
     FileRefused,
     /// A file has more bytes than its limit.
@@ -39,6 +41,7 @@ impl Status {
             Status::NoOption => 5,
             Status::ReadFault => 6,
             Status::WriteFault => 7,
+            Status::DeviceFault => 8,
             Status::FileRefused => 12,
             Status::TooLong => 14,
             Status::NoMemory => 15,

@@ -7,42 +7,54 @@ use Rattle.outside.specs.Calls.{gave}
 use Rattle.outside.specs.Sink.{SinkState, IsWritten, written}
 use Rattle.outside.specs.declared.status.Status.{Status}
 use Rattle.outside.specs.declared.status.Status.TheVariants.{Usage, WriteFault, NoMemory}
+use Rattle.key_device.specs.Calls.{Judges, Grew}
+use Rattle.key_device.specs.Device.{OnlyAdds}
 use Rattle.program_steps.specs.Ends.{Ends, IsOwn, Closes}
 use Rattle.program_steps.specs.Laws as laws
 use Rattle.program_steps.specs.Laws.{IsCaused, owed, Completes}
 use Rattle.program_steps.specs.Outcome.{Outcome, usage, fault_line, fault_status}
 use Rattle.program_steps.specs.Own.{is_own}
 use Rattle.runs.specs.Counts.{Counts, counts, Cause, Later, Insists}
-use Rattle.runs.specs.Expected.{Sources, Tells, Expected, expected, NoneRose}
+use Rattle.runs.specs.Expected.{Sources, Tells, expected, NoneRose, AsksToSign}
 use Rattle.runs.specs.Runs.{Ending, value, refused, fault, out_of_memory, Runs}
+use Rattle.runs.specs.Signed.{signatures, AreGenuine, calls}
 use Rattle.runs.specs.Tree.{Question, Tree}
 use Rattle.runs.specs.World.{World}
 use Rattle.runs.specs.declared.fault.Fault.{Fault}
-use Rattle.runs.specs.declared.fault.Fault.TheVariants.{Read, Write}
+use Rattle.runs.specs.declared.fault.Fault.TheVariants.{Read, Device, Write}
 use Rattle.runs.proofs.AskedInOrder as asked
 use Rattle.runs.proofs.CountLaws as runs
 use Rattle.runs.proofs.CountLaws.{rose_on}
 use Rattle.runs.proofs.ExpectedEnds as ends
+use Rattle.runs.proofs.Signing as signing
 
 -- ---- statuses
 
 -- no fault has a status that a command chooses itself, or that of no command, or that of no memory
 not_own : (f : Fault) → is_own (fault_status f) ≡ true → ⊥
 not_own Read own = cc
+not_own Device own = cc
 not_own Write own = cc
 
 not_usage : (f : Fault) → fault_status f ≡ Usage → ⊥
 not_usage Read is = cc
+not_usage Device is = cc
 not_usage Write is = cc
 
 not_memory : (f : Fault) → fault_status f ≡ NoMemory → ⊥
 not_memory Read is = cc
+not_memory Device is = cc
 not_memory Write is = cc
 
 same_fault : (f g : Fault) → fault_status f ≡ fault_status g → f ≡ g
 same_fault Read Read is = refl
+same_fault Read Device is = absurd (cc)
 same_fault Read Write is = absurd (cc)
+same_fault Device Read is = absurd (cc)
+same_fault Device Device is = refl
+same_fault Device Write is = absurd (cc)
 same_fault Write Read is = absurd (cc)
+same_fault Write Device is = absurd (cc)
 same_fault Write Write is = refl
 
 -- ---- the sink, as the end is written
@@ -61,12 +73,14 @@ closes_later out_of_memory old new status closes = rw closes.0 (omega arith)
 
 sink_later : (mid later : World) → later ≡ record mid { sink = later.sink }
     → mid.sink.faults ≤ later.sink.faults → Later (counts mid) (counts later)
-sink_later mid later is more = rw is (record { store = λ name. omega arith; sink = more })
+sink_later mid later is more =
+    rw is (record { store = λ name. omega arith; device = omega arith; sink = more })
 
 later_on : (before mid later : Counts) → Later before mid → Later mid later → Later before later
 later_on before mid later one two = record {
   store = λ name.
       omega (arith, one.store name, two.store name);
+  device = omega (arith, one.device, two.device);
   sink = omega (arith, one.sink, two.sink);
 }
 
@@ -164,7 +178,8 @@ pub no_command_is_usage : laws.NoCommandIsUsage
 no_command_is_usage before later status ran other = usage_at before.sink later.sink status ran.1 other
 
 pub no_command_asks_nothing : laws.NoCommandAsksNothing
-no_command_asks_nothing before later status ran = ap (λ (w : World). w.store) ran.0
+no_command_asks_nothing before later status ran =
+    (ap (λ (w : World). w.store) ran.0, ap (λ (w : World). w.device) ran.0)
 
 -- ---- completeness
 
@@ -237,14 +252,14 @@ ends_fault T f old new status (inr (taken, is)) other = absurd (other Write is)
 -- ---- whatever the counts are
 
 told_at : (wanted : Option (Ending Outcome Outcome)) (end : Ending Outcome Outcome) (mid later : World)
-    (told : Sources)
-    (status : Status)
-    → IsSomeAnd wanted (λ w. (end ≡ w) × Tells mid told)
+    (told : Sources) (status : Status) (T : Type 0)
+    → IsSomeAnd wanted (λ w. (end ≡ w) × Tells mid told) ⊎ T
     → (Tells mid told → Completes later told (owed end) status)
-    → IsSomeAnd wanted (λ w. Completes later told (owed w) status)
-told_at None end mid later told status is completes = absurd is
-told_at (Some w) end mid later told status is completes =
-    subst (λ (e : Ending Outcome Outcome). Completes later told (owed e) status) is.0 (completes is.1)
+    → IsSomeAnd wanted (λ w. Completes later told (owed w) status) ⊎ T
+told_at None end mid later told status T (inl is) completes = absurd is
+told_at (Some w) end mid later told status T (inl is) completes =
+    inl (subst (λ (e : Ending Outcome Outcome). Completes later told (owed e) status) is.0 (completes is.1))
+told_at wanted end mid later told status T (inr asks) completes = inr asks
 
 told_whole : (o : Outcome) (mid later : World) (told : Sources) (status : Status)
     → later ≡ record mid { sink = later.sink } → Ends o mid.sink later.sink status
@@ -260,13 +275,14 @@ told_end : (t : Tree Outcome Outcome) (before mid later : World) (sources : Sour
     → Closes end mid.sink later.sink status → Tells before sources → ((f : Fault) → status ≢ fault_status f)
     → status ≢ NoMemory
     → IsSomeAnd (expected t sources).end (λ e. Completes later (expected t sources).told (owed e) status)
+    ⊎ AsksToSign (expected t sources).asked
 told_end t before mid later sources (value o) status insists run is closes tells other memory =
-    told_at (expected t sources).end (value o) mid later (expected t sources).told status
+    told_at (expected t sources).end (value o) mid later (expected t sources).told status _
     (ends.ends_as_told t before mid sources (value o) insists run tells tt
     (memory_is (value o) mid.sink later.sink status closes memory))
     (told_whole o mid later (expected t sources).told status is closes other)
 told_end t before mid later sources (refused o) status insists run is closes tells other memory =
-    told_at (expected t sources).end (refused o) mid later (expected t sources).told status
+    told_at (expected t sources).end (refused o) mid later (expected t sources).told status _
     (ends.ends_as_told t before mid sources (refused o) insists run tells tt
     (memory_is (refused o) mid.sink later.sink status closes memory))
     (told_whole o mid later (expected t sources).told status is closes other)
@@ -304,6 +320,10 @@ asks_in_order tree before later status (end, mid, run, own, is, closes) =
       reads = ap (λ (w : World). w.store.reads) is ∙ went.reads;
       files = ap (λ (w : World). w.store.files) is ∙ went.files;
       pieces = closes_pieces end mid.sink later.sink status closes ∙ went.pieces;
+      calls = subst (λ (w : World). Grew before.device.calls w.device.calls (calls went.log)) (sym is)
+          went.calls;
+      genuine = subst (λ (w : World). AreGenuine w.device.held w.device.judged (signatures went.log)) (sym is)
+          went.genuine;
     }
 
 -- ---- counts
@@ -345,3 +365,21 @@ closes_same t before mid later out_of_memory status insists run is closes other 
 pub counts_stay : laws.CountsStay
 counts_stay tree before later status insists (end, mid, run, own, is, closes) other =
     closes_same tree before mid later end status insists run is closes other
+
+-- ---- keys
+
+pub held_stays : laws.HeldStays
+held_stays None before later status ran = ap (λ (w : World). w.device.held) ran.0
+held_stays (Some tree) before later status (end, mid, run, own, is, closes) =
+    ap (λ (w : World). w.device.held) is ∙ signing.held_stays tree before mid end run
+
+adds_same : (before : Judges) → OnlyAdds before before
+adds_same before = λ name alg message signature was. was
+
+pub judged_only_adds : laws.JudgedOnlyAdds
+judged_only_adds None before later status ran =
+    subst (λ (w : World). OnlyAdds before.device.judged w.device.judged) (sym ran.0)
+    (adds_same before.device.judged)
+judged_only_adds (Some tree) before later status (end, mid, run, own, is, closes) =
+    subst (λ (w : World). OnlyAdds before.device.judged w.device.judged) (sym is)
+    (signing.judged_only_adds tree before mid end run)

@@ -6,10 +6,13 @@ use Rattle.outside.specs.declared.status.Status.{Status}
 use Rattle.outside.specs.declared.status.Status.TheVariants.{Usage, WriteFault, NoMemory}
 use Rattle.program_steps.specs.Ends.{Ran}
 use Rattle.program_steps.specs.Outcome.{Outcome, ends_with, fault_line, fault_status}
+use Rattle.key_device.specs.Calls.{Grew}
+use Rattle.key_device.specs.Device.{OnlyAdds}
 use Rattle.runs.specs.Asked.{Answered, Goes, reads_in}
 use Rattle.runs.specs.Counts.{Counts, counts, Cause, Later, Insists}
-use Rattle.runs.specs.Expected.{Sources, Tells, expected, NoneRose}
+use Rattle.runs.specs.Expected.{Sources, Tells, expected, NoneRose, AsksToSign}
 use Rattle.runs.specs.Runs.{Ending, value, refused, fault, out_of_memory}
+use Rattle.runs.specs.Signed.{signatures, AreGenuine, calls}
 use Rattle.runs.specs.Tree.{Tree}
 use Rattle.runs.specs.World.{World}
 use Rattle.runs.specs.declared.fault.Fault.{Fault}
@@ -68,19 +71,21 @@ EndsComplete = (tree : Tree Outcome Outcome) (before later : World) (sources : S
     (owed end) status)
 
 -- Where the tree passes over no fault, and no fault is answered and memory did not run out, the same holds
--- whatever the counts are.
+-- whatever the counts are; or else a signature is asked for, which they do not determine.
 abbrev pub EndsAsTold : Type 0
 EndsAsTold = (tree : Tree Outcome Outcome) (before later : World) (sources : Sources) (status : Status)
     → Insists tree → Ran (Some tree) before later status → Tells before sources
     → ((f : Fault) → status ≢ fault_status f) → status ≢ NoMemory
     → IsSomeAnd (expected tree sources).end (λ end. Completes later (expected tree sources).told
     (owed end) status)
+    ⊎ AsksToSign (expected tree sources).asked
 
 -- ---- what was asked
 
 -- The tree goes along what was answered, to an end whose status is answered, unless the sink failed as the
--- end was written. That is all that the store was asked for; its files are as they were; and the sink was
--- offered no empty piece.
+-- end was written. That is all that the store and the device were asked for; each signature in it is judged
+-- yes by the device as it is left; the store's files are as they were; and the sink was offered no empty
+-- piece.
 pub record Asked (tree : Tree Outcome Outcome) (before after : World) (status : Status) : Type 0 where
   pub end : Ending Outcome Outcome
   pub log : List Answered
@@ -89,16 +94,18 @@ pub record Asked (tree : Tree Outcome Outcome) (before after : World) (status : 
   pub reads : after.store.reads ≡ option_map (λ told. told ++ reads_in log) before.store.reads
   pub files : after.store.files ≡ before.store.files
   pub pieces : after.sink.empty_pieces ≡ before.sink.empty_pieces
+  pub calls : Grew before.device.calls after.device.calls (calls log)
+  pub genuine : AreGenuine after.device.held after.device.judged (signatures log)
 
 -- The objects are asked what the tree asks, in that order, and nothing else. Words that are no command ask
--- the store nothing.
+-- the store and the device nothing.
 abbrev pub AsksInOrder : Type 0
 AsksInOrder = (tree : Tree Outcome Outcome) (before after : World) (status : Status)
     → Ran (Some tree) before after status → Asked tree before after status
 
 abbrev pub NoCommandAsksNothing : Type 0
 NoCommandAsksNothing = (before after : World) (status : Status) → Ran None before after status
-    → after.store ≡ before.store
+    → (after.store ≡ before.store) × (after.device ≡ before.device)
 
 -- ---- counts
 
@@ -111,3 +118,15 @@ abbrev pub CountsStay : Type 0
 CountsStay = (tree : Tree Outcome Outcome) (before after : World) (status : Status)
     → Insists tree → Ran (Some tree) before after status → ((f : Fault) → status ≢ fault_status f)
     → counts after ≡ counts before
+
+-- ---- keys
+
+-- Whatever is answered, the device holds the same names with the same algorithms.
+abbrev pub HeldStays : Type 0
+HeldStays = (tree : Option (Tree Outcome Outcome)) (before after : World) (status : Status)
+    → Ran tree before after status → after.device.held ≡ before.device.held
+
+-- Whatever is answered, the device judges yes all that it judged yes before.
+abbrev pub JudgedOnlyAdds : Type 0
+JudgedOnlyAdds = (tree : Option (Tree Outcome Outcome)) (before after : World) (status : Status)
+    → Ran tree before after status → OnlyAdds before.device.judged after.device.judged

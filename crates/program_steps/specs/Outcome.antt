@@ -3,9 +3,9 @@ use Rattle.std.specs.Prelude.{ℕ, List, [], ◌∷◌, ◌++◌, codes}
 use Rattle.std.specs.Fmt.{decimal}
 use Rattle.outside.specs.declared.status.Status.{Status}
 use Rattle.outside.specs.declared.status.Status.TheVariants.{Usage, RequestRefused, ReadFault, WriteFault}
-use Rattle.outside.specs.declared.status.Status.TheVariants.{FileRefused, TooLong}
+use Rattle.outside.specs.declared.status.Status.TheVariants.{DeviceFault, FileRefused, TooLong}
 use Rattle.runs.specs.declared.fault.Fault.{Fault}
-use Rattle.runs.specs.declared.fault.Fault.TheVariants.{Read, Write}
+use Rattle.runs.specs.declared.fault.Fault.TheVariants.{Read, Device, Write}
 
 pub record Outcome : Type 0 where
   pub status : Status
@@ -25,6 +25,7 @@ usage = ends_with Usage (line (codes "usage"))
 -- An object failed. Where it is the sink, nothing more is printed.
 abbrev pub fault_line : Fault → Outcome
 fault_line Read = ends_with ReadFault (line (codes "read fault"))
+fault_line Device = ends_with DeviceFault (line (codes "device fault"))
 fault_line Write = ends_with WriteFault []
 
 -- the status of a fault

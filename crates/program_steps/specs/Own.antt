@@ -2,8 +2,8 @@
 use Rattle.std.specs.Prelude.{Bool, true, false}
 use Rattle.outside.specs.declared.status.Status.{Status}
 use Rattle.outside.specs.declared.status.Status.TheVariants.{Done, Usage, RequestRefused, NoOption, ReadFault}
-use Rattle.outside.specs.declared.status.Status.TheVariants.{WriteFault, FileRefused, TooLong, NoMemory}
-use Rattle.outside.specs.declared.status.Status.TheVariants.{NotOne}
+use Rattle.outside.specs.declared.status.Status.TheVariants.{WriteFault, DeviceFault, FileRefused, TooLong}
+use Rattle.outside.specs.declared.status.Status.TheVariants.{NoMemory, NotOne}
 
 abbrev pub is_own : Status → Bool
 is_own Done = true
@@ -12,6 +12,7 @@ is_own RequestRefused = true
 is_own NoOption = true
 is_own ReadFault = false
 is_own WriteFault = false
+is_own DeviceFault = false
 is_own FileRefused = true
 is_own TooLong = true
 is_own NoMemory = false

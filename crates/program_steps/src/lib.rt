@@ -3,8 +3,8 @@
 //!
 //! A command is defined by its tree of questions (crate `runs`). `Ran` (`specs/Ends.antt`) says of a whole
 //! run that the tree of the words was run and that its end was written. What follows of it is proved once, in
-//! [`statuses_have_causes`], [`usage_is_no_command`], [`ends_complete`], [`asks_in_order`] and
-//! [`counts_stay`].
+//! [`statuses_have_causes`], [`usage_is_no_command`], [`ends_complete`], [`asks_in_order`],
+//! [`counts_stay`] and [`keys_stay`].
 #![tactic(auto)]
 
 mod files;
@@ -17,7 +17,7 @@ mod stop;
 
 pub use files::{read_file, text_of};
 pub use laws::{
-    asks_in_order, counts_stay, ends_complete, statuses_have_causes, usage_is_no_command,
+    asks_in_order, counts_stay, ends_complete, keys_stay, statuses_have_causes, usage_is_no_command,
 };
 pub use printing::{close, finish};
 pub use refusals::{file_refused, query_refused, too_long};

@@ -56,6 +56,7 @@ fn statuses(rt: HostRuntime) {
         (Status::NoOption, 5),
         (Status::ReadFault, 6),
         (Status::WriteFault, 7),
+        (Status::DeviceFault, 8),
         (Status::FileRefused, 12),
         (Status::TooLong, 14),
         (Status::NoMemory, 15),

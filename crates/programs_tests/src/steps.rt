@@ -1,5 +1,6 @@
 // Each step of a program over forms in memory.
 use crate::told::{filled, is_text};
+use key_device::SignError;
 use outside::{MemorySink, MemoryStore, Status};
 use program_steps::{
     Reply, Stop, close, file_refused, finish, query_refused, read_file, text_of, too_long,
@@ -23,6 +24,7 @@ fn file_text(
             Ok(format!(in alloc; "{code} {text}")?)
         }
         Err(Stop::Failed(Fault::Read)) => Ok(String::from_str(alloc, "read fault")?),
+        Err(Stop::Failed(Fault::Device)) => Ok(String::from_str(alloc, "device fault")?),
         Err(Stop::Failed(Fault::Write)) => Ok(String::from_str(alloc, "write fault")?),
         Err(Stop::NoMemory) => Err(AllocError)?,
     }
@@ -141,6 +143,10 @@ fn closes(rt: HostRuntime) -> Result<(), Fail> {
     assert!(rt; is_closed(alloc, Err(refusal), Status::TooLong, b"too long f\n")?);
     let read = Stop::Failed(Fault::Read);
     assert!(rt; is_closed(alloc, Err(read), Status::ReadFault, b"read fault\n")?);
+    let device = Stop::from(SignError::Failed);
+    assert!(rt; is_closed(alloc, Err(device), Status::DeviceFault, b"device fault\n")?);
+    let unsigned = Stop::from(SignError::NoMemory);
+    assert!(rt; is_closed(alloc, Err(unsigned), Status::NoMemory, b"")?);
     let write = Stop::Failed(Fault::Write);
     assert!(rt; is_closed(alloc, Err(write), Status::WriteFault, b"")?);
     assert!(rt; is_closed(alloc, Err(Stop::NoMemory), Status::NoMemory, b"")?);

@@ -1,14 +1,18 @@
 -- The objects are asked what the tree asks, in that order, and nothing else.
-use Rattle.std.proofs.Common.{◌≡◌, ◌≤◌, ◌<◌, ◌++◌, ◌∙◌, ◌⊎◌, inl, inr, ℕ, List, [], ◌∷◌, length, Option, None}
+use Rattle.std.proofs.Common.{◌≡◌, ◌++◌, ◌∙◌, ◌⊎◌, inl, inr, ℕ, List, [], ◌∷◌, Option, None}
 use Rattle.std.proofs.Common.{Some, option_map, refl, sym, ap, subst, append_assoc, append-nil, arith}
-use Rattle.std.specs.Prelude.{take}
 use Rattle.outside.specs.Calls.{Given, gave, failed, exhausted, Grows}
-use Rattle.outside.specs.Sink.{Written, written}
+use Rattle.outside.specs.Sink.{written}
 use Rattle.outside.specs.Store.{FileRead, Reads, file_read}
-use Rattle.runs.specs.Asked.{Answered, answered, Goes, reads_in, Writes, Went, AsksInOrder}
+use Rattle.key_device.specs.Calls.{Grew}
+use Rattle.runs.specs.Asked.{Answered, answered, Goes, reads_in, Writes}
 use Rattle.runs.specs.Runs.{Runs}
-use Rattle.runs.specs.Tree.{Question, file, write, Answer, gives, stops, needs, tries}
+use Rattle.runs.specs.Signed.{signatures, AreGenuine, calls}
+use Rattle.runs.specs.Tree.{Question, file, judge, sign, write, Answer, gives, stops, needs, tries}
+use Rattle.runs.specs.Went.{AsksInOrder}
 use Rattle.runs.specs.World.{World, Took, got}
+use Rattle.runs.proofs.Signing.{held_stays, judged_only_adds, grew_none, calls_step, calls_left, genuine_step}
+use Rattle.runs.proofs.Signing.{genuine_none}
 
 -- ---- reads
 
@@ -37,6 +41,10 @@ reads_step (file name limit) answer log before mid after (new, is, read) rest =
     reads_then before.store.reads mid.store.reads after.store.reads (file_read name limit ∷ []) (reads_in log)
     (ap (λ (w : World). w.store.reads) is
     ∙ grown before.store.reads new.reads (file_read name limit) _ answer read.recorded) rest
+reads_step (judge name alg message signature) answer log before mid after (new, is, asked) rest =
+    rest ∙ ap (λ (w : World). option_map (λ told. told ++ reads_in log) w.store.reads) is
+reads_step (sign name message) answer log before mid after (new, is, asked) rest =
+    rest ∙ ap (λ (w : World). option_map (λ told. told ++ reads_in log) w.store.reads) is
 reads_step (write text) answer log before mid after (new, is, taken) rest =
     rest ∙ ap (λ (w : World). option_map (λ told. told ++ reads_in log) w.store.reads) is
 
@@ -47,6 +55,10 @@ writes_step : (q : Question) (answer : Option (Answer q)) (log : List Answered) 
     → Writes log mid.sink.written after.sink.written
     → Writes (answered q answer ∷ log) before.sink.written after.sink.written
 writes_step (file name limit) answer log before mid after (new, is, read) rest =
+    subst (λ (w : World). Writes log w.sink.written after.sink.written) is rest
+writes_step (judge name alg message signature) answer log before mid after (new, is, asked) rest =
+    subst (λ (w : World). Writes log w.sink.written after.sink.written) is rest
+writes_step (sign name message) answer log before mid after (new, is, asked) rest =
     subst (λ (w : World). Writes log w.sink.written after.sink.written) is rest
 writes_step (write text) (Some written) log before mid after (new, is, taken) rest =
     subst (λ (t : Option (List ℕ)). Writes log t after.sink.written) (ap (λ (w : World). w.sink.written) is
@@ -63,6 +75,10 @@ writes_step (write text) None log before mid after (new, is, taken) rest = (
 same_pieces : (q : Question) (before mid : World) (answer : Given (Answer q)) → Took q before mid answer
     → mid.sink.empty_pieces ≡ before.sink.empty_pieces
 same_pieces (file name limit) before mid answer (new, is, read) = ap (λ (w : World). w.sink.empty_pieces) is
+same_pieces (judge name alg message signature) before mid answer (new, is, asked) =
+    ap (λ (w : World). w.sink.empty_pieces) is
+same_pieces (sign name message) before mid answer (new, is, asked) =
+    ap (λ (w : World). w.sink.empty_pieces) is
 same_pieces (write text) before mid answer (new, is, taken) = ap (λ (w : World). w.sink.empty_pieces) is
     ∙ taken.pieces
 
@@ -70,6 +86,10 @@ same_files : (q : Question) (before mid : World) (answer : Given (Answer q)) →
     → mid.store.files ≡ before.store.files
 same_files (file name limit) before mid answer (new, is, read) = ap (λ (w : World). w.store.files) is
     ∙ read.same
+same_files (judge name alg message signature) before mid answer (new, is, asked) =
+    ap (λ (w : World). w.store.files) is
+same_files (sign name message) before mid answer (new, is, asked) =
+    ap (λ (w : World). w.store.files) is
 same_files (write text) before mid answer (new, is, taken) = ap (λ (w : World). w.store.files) is
 
 -- ---- memory ran out in a call
@@ -79,33 +99,61 @@ record Left (q : Question) (before after : World) : Type 0 where
   is_last : (log ≡ []) ⊎ (log ≡ answered q None ∷ [])
   reads : after.store.reads ≡ option_map (λ told. told ++ reads_in log) before.store.reads
   writes : Writes log before.sink.written after.sink.written
+  asked : Grew before.device.calls after.device.calls (calls log)
+  genuine : AreGenuine after.device.held after.device.judged (signatures log)
 
 left_at : (name : List ℕ) (limit : ℕ) (before after : World) → after.sink.written ≡ before.sink.written
+    → after.device.calls ≡ before.device.calls
     → (after.store.reads ≡ before.store.reads)
     ⊎ (after.store.reads ≡ option_map (λ told. told ++ file_read name limit ∷ []) before.store.reads)
     → Left (file name limit) before after
-left_at name limit before after same (inl kept) =
-    record {
-      log = [];
-      is_last = inl refl;
-      reads =
-          reads_none before.store.reads after.store.reads kept;
-      writes = same;
-    }
-left_at name limit before after same (inr grew) =
-    record { log = answered (file name limit) None ∷ []; is_last = inr refl; reads = grew; writes = same }
+left_at name limit before after same device (inl kept) = record {
+  log = [];
+  is_last = inl refl;
+  reads = reads_none before.store.reads after.store.reads kept;
+  writes = same;
+  asked = grew_none _ _ device;
+  genuine = tt;
+}
+left_at name limit before after same device (inr grew) = record {
+  log = answered (file name limit) None ∷ [];
+  is_last = inr refl;
+  reads = grew;
+  writes = same;
+  asked = grew_none _ _ device;
+  genuine = tt;
+}
 
 left : (q : Question) (before after : World) → Took q before after exhausted → Left q before after
 left (file name limit) before after (new, is, read) =
     left_at name limit before after (ap (λ (w : World). w.sink.written) is)
+    (ap (λ (w : World). w.device.calls) is)
     (subst (λ (w : World). (w.store.reads ≡ before.store.reads)
     ⊎ (w.store.reads ≡ option_map (λ told. told ++ file_read name limit ∷ []) before.store.reads))
     (sym is) read.recorded)
+left (judge name alg message signature) before after (new, is, asked) = record {
+  log = answered (judge name alg message signature) None ∷ [];
+  is_last = inr refl;
+  reads = reads_none before.store.reads after.store.reads (ap (λ (w : World). w.store.reads) is);
+  writes = ap (λ (w : World). w.sink.written) is;
+  asked = calls_left (judge name alg message signature) before after (new, is, asked);
+  genuine = genuine_none (judge name alg message signature) after.device.held after.device.judged;
+}
+left (sign name message) before after (new, is, asked) = record {
+  log = answered (sign name message) None ∷ [];
+  is_last = inr refl;
+  reads = reads_none before.store.reads after.store.reads (ap (λ (w : World). w.store.reads) is);
+  writes = ap (λ (w : World). w.sink.written) is;
+  asked = calls_left (sign name message) before after (new, is, asked);
+  genuine = genuine_none (sign name message) after.device.held after.device.judged;
+}
 left (write text) before after (new, is, taken) = record {
   log = [];
   is_last = inl refl;
   reads = reads_none before.store.reads after.store.reads (ap (λ (w : World). w.store.reads) is);
   writes = ap (λ (w : World). w.sink.written) is ∙ taken.taken;
+  asked = grew_none _ _ (ap (λ (w : World). w.device.calls) is);
+  genuine = tt;
 }
 
 -- ---- runs
@@ -119,6 +167,8 @@ asks_in_order (gives v) before after end run = record {
   writes = ap (λ (w : World). w.sink.written) run.0;
   pieces = ap (λ (w : World). w.sink.empty_pieces) run.0;
   files = ap (λ (w : World). w.store.files) run.0;
+  calls = grew_none _ _ (ap (λ (w : World). w.device.calls) run.0);
+  genuine = tt;
 }
 asks_in_order (stops refusal) before after end run = record {
   log = [];
@@ -127,6 +177,8 @@ asks_in_order (stops refusal) before after end run = record {
   writes = ap (λ (w : World). w.sink.written) run.0;
   pieces = ap (λ (w : World). w.sink.empty_pieces) run.0;
   files = ap (λ (w : World). w.store.files) run.0;
+  calls = grew_none _ _ (ap (λ (w : World). w.device.calls) run.0);
+  genuine = tt;
 }
 asks_in_order (needs q next) before after end (inl (answer, mid, took, rest)) =
     let went = asks_in_order (next answer) mid after end rest in
@@ -137,6 +189,10 @@ asks_in_order (needs q next) before after end (inl (answer, mid, took, rest)) =
       writes = writes_step q (Some answer) went.log before mid after took went.writes;
       pieces = went.pieces ∙ same_pieces q before mid (gave answer) took;
       files = went.files ∙ same_files q before mid (gave answer) took;
+      calls = calls_step q (Some answer) went.log before mid after took went.calls;
+      genuine = genuine_step q (Some answer) went.log before mid after took
+          (held_stays (next answer) mid after end rest) (judged_only_adds (next answer) mid after end rest)
+          went.genuine;
     }
 asks_in_order (needs q next) before after end (inr (inl faulted)) = record {
   log = answered q None ∷ [];
@@ -145,6 +201,8 @@ asks_in_order (needs q next) before after end (inr (inl faulted)) = record {
   writes = writes_step q None [] before after after faulted.0 refl;
   pieces = same_pieces q before after failed faulted.0;
   files = same_files q before after failed faulted.0;
+  calls = calls_step q None [] before after after faulted.0 (grew_none _ _ refl);
+  genuine = genuine_none q after.device.held after.device.judged;
 }
 asks_in_order (needs q next) before after end (inr (inr (inl same, gives_up))) = record {
   log = [];
@@ -153,6 +211,8 @@ asks_in_order (needs q next) before after end (inr (inr (inl same, gives_up))) =
   writes = ap (λ (w : World). w.sink.written) same;
   pieces = ap (λ (w : World). w.sink.empty_pieces) same;
   files = ap (λ (w : World). w.store.files) same;
+  calls = grew_none _ _ (ap (λ (w : World). w.device.calls) same);
+  genuine = tt;
 }
 asks_in_order (needs q next) before after end (inr (inr (inr took, gives_up))) =
     let last = left q before after took in
@@ -163,6 +223,8 @@ asks_in_order (needs q next) before after end (inr (inr (inr took, gives_up))) =
       writes = last.writes;
       pieces = same_pieces q before after exhausted took;
       files = same_files q before after exhausted took;
+      calls = last.asked;
+      genuine = last.genuine;
     }
 asks_in_order (tries q next) before after end (inl (answer, mid, took, rest)) =
     let went = asks_in_order (next answer) mid after end rest in
@@ -173,6 +235,10 @@ asks_in_order (tries q next) before after end (inl (answer, mid, took, rest)) =
       writes = writes_step q answer went.log before mid after took went.writes;
       pieces = went.pieces ∙ same_pieces q before mid (got answer) took;
       files = went.files ∙ same_files q before mid (got answer) took;
+      calls = calls_step q answer went.log before mid after took went.calls;
+      genuine = genuine_step q answer went.log before mid after took
+          (held_stays (next answer) mid after end rest) (judged_only_adds (next answer) mid after end rest)
+          went.genuine;
     }
 asks_in_order (tries q next) before after end (inr (inl same, gives_up)) = record {
   log = [];
@@ -181,6 +247,8 @@ asks_in_order (tries q next) before after end (inr (inl same, gives_up)) = recor
   writes = ap (λ (w : World). w.sink.written) same;
   pieces = ap (λ (w : World). w.sink.empty_pieces) same;
   files = ap (λ (w : World). w.store.files) same;
+  calls = grew_none _ _ (ap (λ (w : World). w.device.calls) same);
+  genuine = tt;
 }
 asks_in_order (tries q next) before after end (inr (inr took, gives_up)) =
     let last = left q before after took in
@@ -191,4 +259,6 @@ asks_in_order (tries q next) before after end (inr (inr took, gives_up)) =
       writes = last.writes;
       pieces = same_pieces q before after exhausted took;
       files = same_files q before after exhausted took;
+      calls = last.asked;
+      genuine = last.genuine;
     }

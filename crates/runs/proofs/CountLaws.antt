@@ -1,12 +1,12 @@
 -- The laws of the counts of a run.
-use Rattle.std.proofs.Common.{◌≡◌, ◌≤◌, ◌∙◌, inl, inr, ℕ, List, Option, None, Some, refl, sym, ap, subst}
+use Rattle.std.proofs.Common.{◌≡◌, ◌∙◌, inl, inr, ℕ, List, Option, None, Some, refl, sym, ap, subst}
 use Rattle.std.proofs.Common.{arith}
 use Rattle.outside.specs.Calls.{gave, failed, exhausted}
 use Rattle.outside.specs.Faults.{Rose}
 use Rattle.runs.specs.Counts.{Counts, counts, RoseBy, MayAsk, Cause, FaultsHaveCauses, Later, CountsNeverFall}
 use Rattle.runs.specs.Counts.{Insists, IsNoFault, CountsStay}
 use Rattle.runs.specs.Runs.{Ending, value, refused, fault, out_of_memory, Faults, Runs}
-use Rattle.runs.specs.Tree.{Question, file, write, Answer, Tree, gives, stops, needs, tries}
+use Rattle.runs.specs.Tree.{Question, file, judge, sign, write, Answer, Tree, gives, stops, needs, tries}
 use Rattle.runs.specs.World.{World, fault_of, Took, got}
 use Rattle.runs.specs.declared.fault.Fault.{Fault}
 
@@ -16,6 +16,10 @@ pub gave_counts : (q : Question) (before mid : World) (answer : Answer q) → To
     → counts mid ≡ counts before
 gave_counts (file name limit) before mid answer (new, is, read) = ap counts is
     ∙ ap (λ (n : List ℕ → ℕ). record (counts before) { store = n }) read.counts
+gave_counts (judge name alg message signature) before mid answer (new, is, judged) = ap counts is
+    ∙ ap (λ (n : ℕ). record (counts before) { device = n }) judged.counts
+gave_counts (sign name message) before mid answer (new, is, signed) = ap counts is
+    ∙ ap (λ (n : ℕ). record (counts before) { device = n }) signed.counts
 gave_counts (write text) before mid answer (new, is, taken) = ap counts is
     ∙ ap (λ (n : ℕ). record (counts before) { sink = n }) taken.counts
 
@@ -23,6 +27,10 @@ pub exhausted_counts : (q : Question) (before mid : World) → Took q before mid
     → counts mid ≡ counts before
 exhausted_counts (file name limit) before mid (new, is, read) = ap counts is
     ∙ ap (λ (n : List ℕ → ℕ). record (counts before) { store = n }) read.counts
+exhausted_counts (judge name alg message signature) before mid (new, is, judged) = ap counts is
+    ∙ ap (λ (n : ℕ). record (counts before) { device = n }) judged.counts
+exhausted_counts (sign name message) before mid (new, is, signed) = ap counts is
+    ∙ ap (λ (n : ℕ). record (counts before) { device = n }) signed.counts
 exhausted_counts (write text) before mid (new, is, taken) = ap counts is
     ∙ ap (λ (n : ℕ). record (counts before) { sink = n }) taken.counts
 
@@ -30,26 +38,37 @@ pub failed_counts : (q : Question) (before mid : World) → Took q before mid fa
     → RoseBy q (counts before) (counts mid)
 failed_counts (file name limit) before mid (new, is, read) =
     subst (λ (w : World). Rose (before.store.faults name) (w.store.faults name)) (sym is) read.counts.0
+failed_counts (judge name alg message signature) before mid (new, is, judged) =
+    subst (λ (w : World). Rose before.device.faults w.device.faults) (sym is) judged.counts.0
+failed_counts (sign name message) before mid (new, is, signed) =
+    subst (λ (w : World). Rose before.device.faults w.device.faults) (sym is) signed.counts.0
 failed_counts (write text) before mid (new, is, taken) =
     subst (λ (w : World). Rose before.sink.faults w.sink.faults) (sym is) taken.counts.0
 
 -- ---- counts never fall
 
 same_later : (before after : Counts) → after ≡ before → Later before after
-same_later before after same = rw same (record { store = λ name. omega arith; sink = omega arith })
+same_later before after same =
+    rw same (record { store = λ name. omega arith; device = omega arith; sink = omega arith })
 
 later_later : (before mid after : Counts) → Later before mid → Later mid after → Later before after
 later_later before mid after one two = record {
   store = λ name. omega (arith, one.store name, two.store name);
+  device = omega (arith, one.device, two.device);
   sink = omega (arith, one.sink, two.sink);
 }
 
 failed_later : (q : Question) (before mid : World) → Took q before mid failed
     → Later (counts before) (counts mid)
 failed_later (file name limit) before mid (new, is, read) =
-    rw is (record { store = read.counts.1; sink = omega arith })
+    rw is (record { store = read.counts.1; device = omega arith; sink = omega arith })
+failed_later (judge name alg message signature) before mid (new, is, judged) =
+    rw is (record { store = λ name. omega arith; device = judged.counts.1; sink = omega arith })
+failed_later (sign name message) before mid (new, is, signed) =
+    rw is (record { store = λ name. omega arith; device = signed.counts.1; sink = omega arith })
 failed_later (write text) before mid (new, is, taken) = rw is (record {
   store = λ name. omega arith;
+  device = omega arith;
   sink =
       taken.counts.1;
 })
@@ -81,11 +100,15 @@ counts_never_fall (tries q next) before later end (inr (inr took, gives_up)) =
 pub rose_on : (q : Question) (before mid after : Counts) → RoseBy q before mid → Later mid after
     → RoseBy q before after
 rose_on (file name limit) before mid after rose later = omega (arith, later.store name)
+rose_on (judge name alg message signature) before mid after rose later = omega (arith, later.device)
+rose_on (sign name message) before mid after rose later = omega (arith, later.device)
 rose_on (write text) before mid after rose later = omega (arith, later.sink)
 
 pub rose_since : (q : Question) (before mid after : Counts) → Later before mid → RoseBy q mid after
     → RoseBy q before after
 rose_since (file name limit) before mid after later rose = omega (arith, later.store name)
+rose_since (judge name alg message signature) before mid after later rose = omega (arith, later.device)
+rose_since (sign name message) before mid after later rose = omega (arith, later.device)
 rose_since (write text) before mid after later rose = omega (arith, later.sink)
 
 -- ---- causes

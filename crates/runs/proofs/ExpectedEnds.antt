@@ -1,16 +1,17 @@
 -- A run in which no object fails ends as the objects determine.
 use Rattle.std.proofs.Common.{◌≡◌, ◌<◌, ◌≤◌, ◌++◌, ◌∙◌, inl, inr, ℕ, List, [], ◌∷◌, length, nat_lt, Bool}
 use Rattle.std.proofs.Common.{true, false, Option, None, Some, cond, refl, sym, ap, subst, option_map, arith}
-use Rattle.std.specs.Prelude.{IfSome, IsSomeAnd, ◌≢◌}
+use Rattle.std.specs.Prelude.{IfSome, IsSomeAnd, ◌≢◌, ◌⊎◌, ⊤}
 use borrow.Author.Tests.{ltb-true, ltb-false}
 use Rattle.outside.specs.Calls.{gave}
 use Rattle.outside.specs.Sink.{Written, written, TakesAll}
 use Rattle.outside.specs.Store.{Reads, file_read, File, whole, longer, Fits, IsWithin}
+use Rattle.key_device.specs.Calls.{Judges}
 use Rattle.runs.specs.Counts.{Counts, counts, RoseBy, Insists}
 use Rattle.runs.specs.Expected.{Sources, Tells, fitting, answer_of, after, Expected, expected_by, expected}
-use Rattle.runs.specs.Expected.{NoneRose, EndsAsExpected, EndsAsTold}
+use Rattle.runs.specs.Expected.{NoneRose, EndsAsExpected, AsksToSign, EndsAsTold}
 use Rattle.runs.specs.Runs.{Ending, value, refused, fault, out_of_memory, HandsOn, Refuses, GivesUp, Runs}
-use Rattle.runs.specs.Tree.{Question, file, write, Answer, gives, stops, needs, tries}
+use Rattle.runs.specs.Tree.{Question, file, judge, sign, write, Answer, gives, stops, needs, tries}
 use Rattle.runs.specs.World.{World, fault_of, Took}
 use Rattle.runs.proofs.CountLaws.{gave_counts, failed_counts, counts_never_fall, rose_on, no_fault_is}
 
@@ -50,24 +51,44 @@ with_that : {A : Type 0} (P : A → Type 0) (T : Type 0) (o : Option A) → IsSo
 with_that P T None p t = absurd p
 with_that P T (Some a) p t = (p, t)
 
--- what was answered is what the objects determine, and they tell on
+-- a signature is asked for
+abbrev Signs : Question → Type 0
+Signs (file name limit) = ⊥
+Signs (judge name alg message signature) = ⊥
+Signs (sign name message) = ⊤
+Signs (write text) = ⊥
+
+-- what was answered is what the objects determine, and they tell on, unless it is a signature
 told : (q : Question) (before mid : World) (sources : Sources) (answer : Answer q) → Tells before sources
     → Took q before mid (gave answer)
     → IsSomeAnd (answer_of q sources) (λ a. (answer ≡ a) × Tells mid (after q sources))
+    ⊎ (Signs q × (answer_of q sources ≡ None))
 told (file name limit) before mid sources answer tells (new, is, read) =
-    with_that _ (Tells mid (after (file name limit) sources)) _ (file_is limit (sources.files name) answer
-    (rw tells.files at read.file) read.within) (rw is (record {
+    inl (with_that _ (Tells mid (after (file name limit) sources)) _
+    (file_is limit (sources.files name) answer (rw tells.files at read.file) read.within) (rw is (record {
       files = read.same ∙ tells.files;
       reads = read.recorded ∙ ap (option_map (λ (r : Reads). r ++ file_read name limit ∷ [])) tells.reads;
       written = tells.written;
-    }))
-told (write text) before mid sources all tells (new, is, taken) = (
+      judged = tells.judged;
+    })))
+told (judge name alg message signature) before mid sources answer tells (new, is, judged) = inl (
+  judged.verdict ∙ ap (λ (f : Judges). f name alg message signature) tells.judged,
+  rw is (record {
+    files = tells.files;
+    reads = tells.reads;
+    written = tells.written;
+    judged = judged.judged ∙ tells.judged;
+  }),
+)
+told (sign name message) before mid sources answer tells took = inr (tt, refl)
+told (write text) before mid sources all tells (new, is, taken) = inl (
   written_is all,
   rw is (record {
     files = tells.files;
     reads = tells.reads;
     written = all_taken text before.sink.written new.written all taken.taken
         ∙ ap (option_map (λ (t : List ℕ). t ++ text)) tells.written;
+    judged = tells.judged;
   }),
 )
 
@@ -97,13 +118,14 @@ EndsBy before after later end e = NoneRose before after e.asked → IfSome e.end
     × Tells later e.told)
 
 by_answer : {R A X : Type 0} (before after : Counts) (later : World) (end : Ending R A) (q : Question)
-    (sources : Sources) (o : Option X) (answer : X) (T : Type 0)
-    (rest : X → Expected R A) → IsSomeAnd o (λ a. (answer ≡ a) × T)
+    (sources : Sources) (o : Option X) (answer : X) (T : Type 0) (rest : X → Expected R A)
+    → IsSomeAnd o (λ a. (answer ≡ a) × T) ⊎ (Signs q × (o ≡ None))
     → (T → EndsBy before after later end (rest answer))
     → EndsBy before after later end (expected_by q sources o rest)
-by_answer before after later end q sources None answer T rest is by_rest = absurd is
-by_answer before after later end q sources (Some a) answer T rest is by_rest =
+by_answer before after later end q sources None answer T rest is by_rest = λ none. tt
+by_answer before after later end q sources (Some a) answer T rest (inl is) by_rest =
     λ none. subst (λ (x : _). EndsBy before after later end (rest x)) is.0 (by_rest is.1) none.1
+by_answer before after later end q sources (Some a) answer T rest (inr is) by_rest = absurd (cc is.1)
 
 none_first : {R A X : Type 0} (before after : Counts) (q : Question) (sources : Sources) (o : Option X)
     (rest : X → Expected R A)
@@ -154,25 +176,43 @@ ends_as_expected (tries q next) before later sources end (inr given_up) tells no
 
 -- ---- whatever the counts are
 
--- the end is the expected one
+-- the end is the expected one, or a signature was asked for
 abbrev TellsEnd : {R A : Type 0} → World → Ending R A → Expected R A → Type 0
-TellsEnd later end e = IsSomeAnd e.end (λ wanted. (end ≡ wanted) × Tells later e.told)
+TellsEnd later end e = IsSomeAnd e.end (λ wanted. (end ≡ wanted) × Tells later e.told) ⊎ AsksToSign e.asked
+
+signs_first : (q : Question) (questions : List Question) → Signs q → AsksToSign (q ∷ questions)
+signs_first (file name limit) questions signs = absurd signs
+signs_first (judge name alg message signature) questions signs = absurd signs
+signs_first (sign name message) questions signs = tt
+signs_first (write text) questions signs = absurd signs
+
+signs_later : (q : Question) (questions : List Question) → AsksToSign questions → AsksToSign (q ∷ questions)
+signs_later (file name limit) questions asks = asks
+signs_later (judge name alg message signature) questions asks = asks
+signs_later (sign name message) questions asks = tt
+signs_later (write text) questions asks = asks
+
+told_on : {R A : Type 0} (later : World) (end : Ending R A) (q : Question) (e : Expected R A)
+    → TellsEnd later end e → TellsEnd later end (record e { asked = q ∷ e.asked })
+told_on later end q e (inl tells) = inl tells
+told_on later end q e (inr asks) = inr (signs_later q e.asked asks)
 
 by_told : {R A X : Type 0} (later : World) (end : Ending R A) (q : Question) (sources : Sources)
-    (o : Option X)
-    (answer : X) (T : Type 0) (rest : X → Expected R A)
-    → IsSomeAnd o (λ a. (answer ≡ a) × T) → (T → TellsEnd later end (rest answer))
+    (o : Option X) (answer : X) (T : Type 0) (rest : X → Expected R A)
+    → IsSomeAnd o (λ a. (answer ≡ a) × T) ⊎ (Signs q × (o ≡ None)) → (T → TellsEnd later end (rest answer))
     → TellsEnd later end (expected_by q sources o rest)
-by_told later end q sources None answer T rest is by_rest = absurd is
-by_told later end q sources (Some a) answer T rest is by_rest =
-    subst (λ (x : _). TellsEnd later end (rest x)) is.0 (by_rest is.1)
+by_told later end q sources None answer T rest (inl is) by_rest = absurd is
+by_told later end q sources None answer T rest (inr is) by_rest = inr (signs_first q [] is.0)
+by_told later end q sources (Some a) answer T rest (inl is) by_rest =
+    told_on later end q (rest a) (subst (λ (x : _). TellsEnd later end (rest x)) is.0 (by_rest is.1))
+by_told later end q sources (Some a) answer T rest (inr is) by_rest = absurd (cc is.1)
 
 pub ends_as_told : {R A : Type 0} → EndsAsTold R A
 unfolding Runs Insists
 ends_as_told (gives v) before later sources end insists run tells none memory =
-    (handed v end run.1 memory, subst (λ (w : World). Tells w sources) (sym run.0) tells)
+    inl (handed v end run.1 memory, subst (λ (w : World). Tells w sources) (sym run.0) tells)
 ends_as_told (stops refusal) before later sources end insists run tells none memory =
-    (refused_is refusal end run.1 memory, subst (λ (w : World). Tells w sources) (sym run.0) tells)
+    inl (refused_is refusal end run.1 memory, subst (λ (w : World). Tells w sources) (sym run.0) tells)
 ends_as_told (needs q next) before later sources end insists
     (inl (answer, mid, took, rest)) tells none memory =
     by_told later end q sources (answer_of q sources) answer (Tells mid (after q sources))

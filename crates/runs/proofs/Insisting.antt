@@ -1,7 +1,7 @@
 -- Trees that pass over no fault.
 use Rattle.std.proofs.Common.{List, [], ◌∷◌, Option, None, Some}
 use Rattle.runs.specs.Counts.{Insists}
-use Rattle.runs.specs.Tree.{Tree, gives, stops, needs, tries, bind, each, unless}
+use Rattle.runs.specs.Tree.{Tree, gives, stops, needs, tries, bind, each, map_stops, unless}
 
 pub insists_bind : {R A B : Type 0} (t : Tree R A) (k : A → Tree R B) → Insists t → ((a : A) → Insists (k a))
     → Insists (bind t k)
@@ -31,3 +31,10 @@ insists_each tree [] one = insists_gives _ []
 insists_each tree (x ∷ xs) one =
     insists_bind (tree x) _ (one x) (λ y. insists_bind (each tree xs) _ (insists_each tree xs one) (λ ys.
     insists_gives _ (y ∷ ys)))
+
+pub insists_mapped : {R S A : Type 0} (f : R → S) (t : Tree R A) → Insists t → Insists (map_stops f t)
+unfolding map_stops Insists
+insists_mapped f (gives v) one = tt
+insists_mapped f (stops refusal) one = tt
+insists_mapped f (needs q next) one = λ answer. insists_mapped f (next answer) (one answer)
+insists_mapped f (tries q next) one = absurd one

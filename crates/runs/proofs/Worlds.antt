@@ -2,6 +2,7 @@
 use Rattle.std.proofs.Common.{◌≡◌, sym, subst}
 use Rattle.outside.specs.Store.{StoreState}
 use Rattle.outside.specs.Sink.{SinkState}
+use Rattle.key_device.specs.Device.{DeviceState}
 use Rattle.runs.specs.Runs.{Ending, Runs}
 use Rattle.runs.specs.Tree.{Tree}
 use Rattle.runs.specs.World.{World}
@@ -11,6 +12,13 @@ pub at_store : {R A : Type 0} (t : Tree R A) (old new : StoreState) (end : Endin
     → (before : World) → before.store ≡ old → Runs t before (record before { store = new }) end
 at_store t old new end runs before same =
     subst (λ (s : StoreState). Runs t (record before { store = s }) (record before { store = new }) end)
+    (sym same) (runs before)
+
+pub at_device : {R A : Type 0} (t : Tree R A) (old new : DeviceState) (end : Ending R A)
+    → ((w : World) → Runs t (record w { device = old }) (record w { device = new }) end)
+    → (before : World) → before.device ≡ old → Runs t before (record before { device = new }) end
+at_device t old new end runs before same =
+    subst (λ (s : DeviceState). Runs t (record before { device = s }) (record before { device = new }) end)
     (sym same) (runs before)
 
 pub at_sink : {R A : Type 0} (t : Tree R A) (old new : SinkState) (end : Ending R A)

@@ -2,9 +2,9 @@
 use Rattle.std.specs.Prelude.{◌≡◌, ◌⊎◌, ℕ, ◌≤◌, List, [], ◌∷◌, ◌++◌, length, take, Option, Some, None}
 use Rattle.std.specs.Prelude.{option_map}
 use Rattle.outside.specs.Store.{Reads, file_read}
-use Rattle.runs.specs.Runs.{Ending, HandsOn, Refuses, Faults, GivesUp, Runs}
-use Rattle.runs.specs.Tree.{Question, file, write, Answer, Tree, gives, stops, needs, tries}
-use Rattle.runs.specs.World.{World, fault_of}
+use Rattle.runs.specs.Runs.{Ending, HandsOn, Refuses, Faults, GivesUp}
+use Rattle.runs.specs.Tree.{Question, file, judge, sign, write, Answer, Tree, gives, stops, needs, tries}
+use Rattle.runs.specs.World.{fault_of}
 
 -- a question, and its answer, or none where the object failed or memory ran out in the call
 pub data Answered : Type 0 where
@@ -29,29 +29,17 @@ Goes (tries q next) log end =
 abbrev pub reads_in : List Answered → Reads
 reads_in [] = []
 reads_in (answered (file name limit) answer ∷ log) = file_read name limit ∷ reads_in log
+reads_in (answered (judge name alg message signature) answer ∷ log) = reads_in log
+reads_in (answered (sign name message) answer ∷ log) = reads_in log
 reads_in (answered (write text) answer ∷ log) = reads_in log
 
 -- The texts that a sink is given are written to it, each whole, or up to where the sink failed in it.
 abbrev pub Writes : List Answered → Option (List ℕ) → Option (List ℕ) → Type 0
 Writes [] old new = new ≡ old
 Writes (answered (file name limit) answer ∷ log) old new = Writes log old new
+Writes (answered (judge name alg message signature) answer ∷ log) old new = Writes log old new
+Writes (answered (sign name message) answer ∷ log) old new = Writes log old new
 Writes (answered (write text) (Some all) ∷ log) old new =
     Writes log (option_map (λ told. told ++ text) old) new
 Writes (answered (write text) None ∷ log) old new =
     (n : ℕ) × (n ≤ length text) × Writes log (option_map (λ told. told ++ take n text) old) new
-
--- What was answered: the tree goes along it to the end; it is all that the store was asked for, and all that
--- was written to the sink, where they tell it; the sink was offered no empty piece; and the store's files are
--- as they were. Where memory ran out in the last read, the store may have that on record, or not.
-pub record Went {R A : Type 0} (t : Tree R A) (before after : World) (end : Ending R A) : Type 0 where
-  pub log : List Answered
-  pub goes : Goes t log end
-  pub reads : after.store.reads ≡ option_map (λ told. told ++ reads_in log) before.store.reads
-  pub writes : Writes log before.sink.written after.sink.written
-  pub pieces : after.sink.empty_pieces ≡ before.sink.empty_pieces
-  pub files : after.store.files ≡ before.store.files
-
--- However a run ends, the objects were asked what the tree asks, in that order, and nothing else.
-abbrev pub AsksInOrder : Type 0 → Type 0 → Type 0
-AsksInOrder R A = (t : Tree R A) (before after : World) (end : Ending R A) → Runs t before after end
-    → Went t before after end

@@ -2,21 +2,24 @@
 use Rattle.std.specs.Prelude.{◌≡◌, ◌⊎◌, ⊤, ℕ, ◌≤◌, List, Option}
 use Rattle.outside.specs.Faults.{Rose}
 use Rattle.runs.specs.Runs.{Ending, value, refused, fault, out_of_memory, Runs}
-use Rattle.runs.specs.Tree.{Question, file, write, Answer, Tree, gives, stops, needs, tries}
+use Rattle.runs.specs.Tree.{Question, file, judge, sign, write, Answer, Tree, gives, stops, needs, tries}
 use Rattle.runs.specs.World.{World, fault_of}
 use Rattle.runs.specs.declared.fault.Fault.{Fault}
 
 -- how often each object has failed
 pub record Counts : Type 0 where
   pub store : List ℕ → ℕ
+  pub device : ℕ
   pub sink : ℕ
 
 abbrev pub counts : World → Counts
-counts w = record { store = w.store.faults; sink = w.sink.faults }
+counts w = record { store = w.store.faults; device = w.device.faults; sink = w.sink.faults }
 
 -- the count rose of the object that is asked this; of the store, that of the name
 abbrev pub RoseBy : Question → Counts → Counts → Type 0
 RoseBy (file name limit) before after = Rose (before.store name) (after.store name)
+RoseBy (judge name alg message signature) before after = Rose before.device after.device
+RoseBy (sign name message) before after = Rose before.device after.device
 RoseBy (write text) before after = Rose before.sink after.sink
 
 -- some answers lead the tree to this question
@@ -41,6 +44,7 @@ FaultsHaveCauses R A = (t : Tree R A) (before after : World) (f : Fault) → Run
 -- no count is lower
 pub record Later (before after : Counts) : Type 0 where
   pub store : (name : List ℕ) → before.store name ≤ after.store name
+  pub device : before.device ≤ after.device
   pub sink : before.sink ≤ after.sink
 
 -- However a run ends, no count fell.

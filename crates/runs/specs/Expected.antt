@@ -1,33 +1,39 @@
 -- The end that a tree comes to by what the objects tell, where no object fails.
-use Rattle.std.specs.Prelude.{◌≡◌, ◌≢◌, ⊤, ℕ, List, [], ◌∷◌, ◌++◌, length, nat_lt, Option, Some, None, IfSome}
-use Rattle.std.specs.Prelude.{IsSomeAnd, if◌then◌else◌, option_map}
+use Rattle.std.specs.Prelude.{◌≡◌, ◌≢◌, ◌⊎◌, ⊤, ℕ, List, [], ◌∷◌, ◌++◌, length, nat_lt, Option, Some, None}
+use Rattle.std.specs.Prelude.{IfSome, IsSomeAnd, if◌then◌else◌, option_map}
 use Rattle.outside.specs.Sink.{written}
 use Rattle.outside.specs.Store.{Files, Reads, file_read, File, whole, longer}
+use Rattle.key_device.specs.Calls.{Judges}
 use Rattle.runs.specs.Counts.{Counts, counts, RoseBy, Insists, IsNoFault}
 use Rattle.runs.specs.Runs.{Ending, value, refused, out_of_memory, Runs}
-use Rattle.runs.specs.Tree.{Question, file, write, Answer, Tree, gives, stops, needs, tries}
+use Rattle.runs.specs.Signed.{SignsNothing}
+use Rattle.runs.specs.Tree.{Question, file, judge, sign, write, Answer, Tree, gives, stops, needs, tries}
 use Rattle.runs.specs.World.{World}
 
 -- the files of a store, and the reads that were made and the bytes that were written so far, where these are
--- told
+-- told; and what a device judges yes
 pub record Sources : Type 0 where
   pub files : Files
   pub reads : Option Reads
   pub written : Option (List ℕ)
+  pub judged : Judges
 
 -- the objects tell that
 pub record Tells (w : World) (sources : Sources) : Type 0 where
   pub files : w.store.files ≡ Some sources.files
   pub reads : w.store.reads ≡ sources.reads
   pub written : w.sink.written ≡ sources.written
+  pub judged : w.device.judged ≡ sources.judged
 
 -- a file of these bytes, as it is read
 abbrev pub fitting : ℕ → List ℕ → File
 fitting limit bytes = if nat_lt limit (length bytes) then longer else whole bytes
 
--- the answer to a question, where they determine it
+-- the answer to a question, where they determine it: a signature may be any that is judged yes
 abbrev pub answer_of : (q : Question) → Sources → Option (Answer q)
 answer_of (file name limit) sources = option_map (fitting limit) (sources.files name)
+answer_of (judge name alg message signature) sources = Some (sources.judged name alg message signature)
+answer_of (sign name message) sources = None
 answer_of (write text) sources = Some written
 
 -- what they tell once the question was answered
@@ -36,6 +42,8 @@ after (file name limit) sources = record sources {
   reads =
       option_map (λ told. told ++ file_read name limit ∷ []) sources.reads;
 }
+after (judge name alg message signature) sources = sources
+after (sign name message) sources = sources
 after (write text) sources = record sources { written = option_map (λ told. told ++ text) sources.written }
 
 -- the questions up to the end, the end where it is determined, and what the objects tell then
@@ -73,9 +81,23 @@ EndsAsExpected R A = (t : Tree R A) (before later : World) (sources : Sources) (
     → NoneRose (counts before) (counts later) (expected t sources).asked → end ≢ out_of_memory
     → IfSome (expected t sources).end (λ wanted. (end ≡ wanted) × Tells later (expected t sources).told)
 
+-- one of these questions asks for a signature
+abbrev pub AsksToSign : List Question → Type 0
+AsksToSign [] = ⊥
+AsksToSign (file name limit ∷ questions) = AsksToSign questions
+AsksToSign (judge name alg message signature ∷ questions) = AsksToSign questions
+AsksToSign (sign name message ∷ questions) = ⊤
+AsksToSign (write text ∷ questions) = AsksToSign questions
+
 -- Where a tree passes over no fault, and a run ends by none and memory did not run out, it ends as the
--- objects determine, whatever the counts are.
+-- objects determine, whatever the counts are; or else a signature was asked for, which they do not determine.
 abbrev pub EndsAsTold : Type 0 → Type 0 → Type 0
 EndsAsTold R A = (t : Tree R A) (before later : World) (sources : Sources) (end : Ending R A)
     → Insists t → Runs t before later end → Tells before sources → IsNoFault end → end ≢ out_of_memory
     → IsSomeAnd (expected t sources).end (λ wanted. (end ≡ wanted) × Tells later (expected t sources).told)
+    ⊎ AsksToSign (expected t sources).asked
+
+-- It is not asked for where the tree asks for none.
+abbrev pub ExpectsNoSignature : Type 0 → Type 0 → Type 0
+ExpectsNoSignature R A = (t : Tree R A) (sources : Sources) → SignsNothing t
+    → ¬ AsksToSign (expected t sources).asked

@@ -1,6 +1,9 @@
 pub mod Asked
 pub mod Counts
 pub mod Expected
+pub mod Presented
 pub mod Runs
+pub mod Signed
 pub mod Tree
+pub mod Went
 pub mod World

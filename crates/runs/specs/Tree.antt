@@ -1,20 +1,28 @@
 -- What a call asks of the objects that are passed in: a tree of questions, in which each question may hang on
 -- the answers before it.
-use Rattle.std.specs.Prelude.{ℕ, List, [], ◌∷◌, Option, Some, None}
+use Rattle.std.specs.Prelude.{ℕ, Bool, List, [], ◌∷◌, Option, Some, None}
+use Rattle.claim_tree.specs.Credential.{Algorithm}
 use Rattle.outside.specs.Sink.{Written}
 use Rattle.outside.specs.Store.{File}
 
 -- ---- questions
 
 -- `file name limit`: the store is asked for the file of this name, of at most so many bytes.
+-- `judge name algorithm message signature`: the device is asked whether this is a signature of the message by
+-- the key of this name, in this algorithm.
+-- `sign name message`: the device is asked for a signature of the message by the key of this name.
 -- `write text`: the sink is given a text.
 -- A further object brings its questions here.
 pub data Question : Type 0 where
   file : List ℕ → ℕ → Question
+  judge : List ℕ → Algorithm → List ℕ → List ℕ → Question
+  sign : List ℕ → List ℕ → Question
   write : List ℕ → Question
 
 abbrev pub Answer : Question → Type 0
 Answer (file name limit) = File
+Answer (judge name alg message signature) = Bool
+Answer (sign name message) = List ℕ
 Answer (write text) = Written
 
 -- ---- trees

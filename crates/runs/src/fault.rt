@@ -5,6 +5,8 @@
 pub enum Fault {
     /// The store.
     Read,
+    /// The device of keys.
+    Device,
     /// The sink.
     Write,
 }

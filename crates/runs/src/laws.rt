@@ -1,7 +1,9 @@
 // What holds of every run, whatever the tree.
-ghost use Rattle.runs.specs.Asked.{AsksInOrder};
 ghost use Rattle.runs.specs.Counts.{FaultsHaveCauses, CountsNeverFall, CountsStay};
-ghost use Rattle.runs.specs.Expected.{EndsAsExpected, EndsAsTold};
+ghost use Rattle.runs.specs.Expected.{EndsAsExpected, EndsAsTold, ExpectsNoSignature};
+ghost use Rattle.runs.specs.Presented.{PresentsEach};
+ghost use Rattle.runs.specs.Signed.{HeldStays, JudgedOnlyAdds};
+ghost use Rattle.runs.specs.Went.{AsksInOrder};
 
 /// A run ends by the fault of an object only where the count of that object rose, at a question of the tree.
 pub fn faults_have_causes<R, A>()
@@ -15,14 +17,29 @@ pub fn counts_stay<R, A>()
 {}
 
 /// Where no count rose of what the tree asks, and memory did not run out, a run ends as the objects
-/// determine.
+/// determine. Where a tree passes over no fault, it is enough that a run does not end by one. What comes
+/// after a signature is not determined; a tree that asks for none is expected to ask for none.
 pub fn ends_as_expected<R, A>()
     ensures expected { EndsAsExpected R A }
     ensures told { EndsAsTold R A }
+    ensures unsigned { ExpectsNoSignature R A }
 {}
 
-/// The objects were asked what the tree asks, in that order, and nothing else. A store's files stay as they
-/// are.
+/// The objects were asked what the tree asks, in that order, and nothing else. Each signature that was given
+/// is under a held name and judged yes, under both names of its algorithm, by the device as it is left. A
+/// store's files stay as they are.
 pub fn asks_in_order<R, A>()
     ensures { AsksInOrder R A }
+{}
+
+/// A device holds the names that it held, each with its algorithm, and judges yes all that it judged yes.
+pub fn keys_stay<R, A>()
+    ensures held { HeldStays R A }
+    ensures judged { JudgedOnlyAdds R A }
+{}
+
+/// Where each presentation of a list is made of one signature, the presentations are those of the signatures
+/// that were given, in that order, and nothing else was signed.
+pub fn presents_each<R, X, Y>()
+    ensures { PresentsEach R X Y }
 {}

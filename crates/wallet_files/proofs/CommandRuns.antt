@@ -1,11 +1,11 @@
 -- The parts of a command that ask nothing.
-use Rattle.std.proofs.Common.{◌≡◌, ◌∙◌, ℕ, List, Option, Some, None, option_map, refl, sym, ap, subst}
+use Rattle.std.proofs.Common.{◌≡◌, ℕ, List, Option, Some, None, option_map, refl, sym, ap, subst}
 use Rattle.program_steps.specs.Outcome.{Outcome, file_refused}
 use Rattle.program_steps.specs.code.Endings.{outcome, early}
 use Rattle.program_steps.specs.declared.reply.Reply.{Reply}
 use Rattle.program_steps.specs.declared.stop.Stop.{Stop}
 use Rattle.program_steps.specs.declared.stop.Stop.TheVariants as stop
-use Rattle.runs.specs.Runs.{Ending, value, refused, fault, out_of_memory, Runs}
+use Rattle.runs.specs.Runs.{Ending, value, refused, Runs}
 use Rattle.runs.specs.Tree.{Tree, unless}
 use Rattle.runs.specs.World.{World}
 use Rattle.runs.proofs.Trees.{runs_as, runs_gives, runs_stops, runs_past, runs_broken, runs_out}

@@ -1,1 +1,2 @@
 pub mod NoFaultPassed
+mod NothingSigned

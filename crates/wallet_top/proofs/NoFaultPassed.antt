@@ -3,9 +3,7 @@ use Rattle.std.proofs.Common.{ℕ, List, Option, None, Some}
 use Rattle.dcql_query.specs.Query.{Credential}
 use Rattle.outside.specs.Store.{File, whole, longer}
 use Rattle.program_steps.specs.Files.{fitting, read_file}
-use Rattle.program_steps.specs.Outcome.{Outcome}
 use Rattle.runs.specs.Counts.{Insists}
-use Rattle.runs.specs.Tree.{Tree, needs, file}
 use Rattle.runs.proofs.Insisting.{insists_bind, insists_gives, insists_stops, insists_unless, insists_each}
 use Rattle.serde_json.specs.Data.{Data}
 use Rattle.wallet_top.specs.Command.{try_query, list_credentials}

@@ -11,7 +11,7 @@ use Rattle.runs.specs.Tree.{Tree, gives, bind, each, unless}
 use Rattle.wallet_files.specs.CredentialFile.{read_credential}
 use Rattle.wallet_files.specs.QueryFile.{read_query, query_refusal, only}
 use Rattle.wallet_files.specs.TreeLines.{match_line}
-use Rattle.wallet_files.specs.Wallet.{Entry, read_wallet}
+use Rattle.wallet_files.specs.Wallet.{read_wallet}
 use Rattle.wallet_files.specs.declared.finding.Finding.{Finding}
 use Rattle.wallet_files.specs.declared.finding.Finding.TheVariants.{Unreadable, Match, NoMatch}
 

@@ -1,7 +1,12 @@
 // What holds of the commands of the wallet.
-ghost use Rattle.wallet_top.specs.Laws.{PassesNoFault};
+ghost use Rattle.wallet_top.specs.Laws.{PassesNoFault, SignsNothing};
 
 /// No command passes over a fault: where an object fails, the command ends by that.
 pub fn passes_no_fault()
     ensures { PassesNoFault }
+{}
+
+/// No command asks for a signature.
+pub fn signs_nothing()
+    ensures { SignsNothing }
 {}

@@ -1,6 +1,7 @@
 // The whole program: its arguments, and its exit code.
 ghost use Rattle.std.specs.Prelude.{map, option_map, string_bytes};
 ghost use Rattle.std.specs.Process.{exit_status};
+ghost use Rattle.key_device.specs.Device.{DeviceState};
 ghost use Rattle.outside.specs.Words.{words_in};
 ghost use Rattle.wallet_top.specs.Program.{Exits};
 
@@ -19,9 +20,9 @@ pub fn exit_code<S: Store, O: Sink>(
     store: &mut S,
     out: &mut O,
 ) -> ExitCode
-    ensures { Exits (option_map (map string_bytes) (words_in arguments))
-        (record { store = S.state store.old; sink = O.state out.old })
-        (record { store = S.state store.new; sink = O.state out.new }) (exit_status result) }
+    ensures { (device : DeviceState) → Exits (option_map (map string_bytes) (words_in arguments))
+        (record { store = S.state store.old; device = device; sink = O.state out.old })
+        (record { store = S.state store.new; device = device; sink = O.state out.new }) (exit_status result) }
 {
     let Ok(words) = words(alloc, arguments) else {
         return ExitCode::from(Status::NoMemory.code());

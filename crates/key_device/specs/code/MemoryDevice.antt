@@ -88,6 +88,14 @@ state_of device = record {
 
 -- ---- its calls
 
+-- nothing but the signatures that it judges yes is another
+abbrev pub ChangesAllowed : MemoryDevice → MemoryDevice → Type 0
+ChangesAllowed old new = new ≡ record old { allowed = new.allowed }
+
+-- nothing but the numbers of the calls that are to fail is another
+abbrev pub ChangesFailing : MemoryDevice → MemoryDevice → Type 0
+ChangesFailing old new = new ≡ record old { failing = new.failing }
+
 -- what it judges yes, and this signature of this message under this name
 abbrev pub with_one : MemoryDevice → (name message signature : List ℕ) → List ℕ → List ℕ → List ℕ → Bool
 with_one device name message signature n m s = allows device n m s

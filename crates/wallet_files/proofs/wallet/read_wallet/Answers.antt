@@ -1,4 +1,3 @@
-use Rattle.std.proofs.Common.{rules}
 use Rattle.std.proofs.lemmas.Result.{err_from_is_err_and}
 use Rattle.program_steps.proofs.Stops.{runs_stop}
 use Rattle.runs.proofs.Trees.{runs_then, runs_gives}

@@ -1,4 +1,3 @@
-use Rattle.std.proofs.Common.{map}
 use Rattle.std.specs.Option.{option_copied}
 use Rattle.runs.specs.World.{World}
 use Rattle.runs.proofs.Each.{IsRest}

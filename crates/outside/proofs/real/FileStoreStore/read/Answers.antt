@@ -1,4 +1,4 @@
-use Rattle.std.proofs.Common.{◌≡◌, ◌≤◌, ℕ, length, Option, Some, None, Result, Ok, Err, Vec, IfOk, IfSome}
+use Rattle.std.proofs.Common.{◌≤◌, ℕ, length, Option, Some, None, Result, Ok, Err, Vec, IfOk, IfSome}
 use Rattle.std.proofs.Common.{inl, refl, sym, subst}
 use Rattle.std.specs.IoError.{error_kind}
 use Rattle.std.specs.declared.alloc.Global.{Global}

@@ -1,0 +1,5 @@
+use Rattle.wallet_top.proofs.NothingSigned.{signs_nothing}
+use Rattle.wallet_top.proofs.laws.signs_nothing.Goals as goal
+
+pub returns : goal.returns
+returns c = signs_nothing
