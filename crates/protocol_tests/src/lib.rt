@@ -3,4 +3,6 @@
 #![tactic(auto)]
 
 #[cfg(test)]
+mod requests;
+#[cfg(test)]
 mod sessions;

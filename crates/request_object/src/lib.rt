@@ -1,0 +1,20 @@
+//! Signed requests (RFC 9101; OpenID4VP 1.0, section 5): the rules that one must keep, with the judgement of
+//! its signature among them, and what it asks.
+//!
+//! [`Request::read`] reads a request object, or a link with one in it, by 21 numbered rules, and refuses it
+//! by the first that is broken. The device is asked once, exactly where the first eight hold.
+#![tactic(auto)]
+
+mod address;
+mod clients;
+mod content;
+mod content_rules;
+mod error;
+mod laws;
+mod read;
+mod request;
+
+pub use error::{Error, RequestRule};
+pub use laws::ends_as_asked;
+pub use request::{Asked, Request};
+pub use request_clients::Clients;
