@@ -1,0 +1,4 @@
+pub mod Tildes
+pub mod Issued
+pub mod Members
+pub mod Asked

@@ -1,0 +1,4 @@
+pub mod Spec
+pub mod Issued
+pub mod Asked
+pub mod code
