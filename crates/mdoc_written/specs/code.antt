@@ -1,0 +1,3 @@
+-- What ties code to the definitions: the meaning of its own types.
+pub mod Standing
+pub mod Pairs
