@@ -42,7 +42,9 @@ fn device_key_in<'t>(map: Item<'t>) -> Option<Item<'t>>
     map.find("deviceKeyInfo")?.find("deviceKey")
 }
 
-fn is_key(item: Item) -> bool
+/// Whether an item is a COSE key that a document may be bound to: a map from integers or texts to integers,
+/// texts, byte strings or booleans.
+pub fn is_key(item: Item) -> bool
     ensures { result ≡ is_key (span_of item.entry) }
 {
     is_map(item)
@@ -70,8 +72,8 @@ fn key_name(alloc: Global, key: Item) -> Result<KeyName, NoMemory>
     Ok(KeyName::from(text))
 }
 
-// The key in its deterministic encoding.
-fn key_bytes(alloc: Global, key: Item) -> Result<Vec<u8>, NoMemory>
+/// The key in its deterministic encoding.
+pub fn key_bytes(alloc: Global, key: Item) -> Result<Vec<u8>, NoMemory>
     ensures { IfOk result (λ bytes. bytes.items ≡ key_bytes (span_of key.entry)) }
 {
     let pairs = written_pairs(alloc, key)?;

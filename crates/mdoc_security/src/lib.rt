@@ -7,7 +7,7 @@ mod error;
 mod mobile_security_object;
 mod value_digests;
 
-pub use device_key::holder_of;
+pub use device_key::{holder_of, is_key, key_bytes};
 pub use error::NoMemory;
 pub use mobile_security_object::MobileSecurityObject;
 pub use value_digests::{NamespaceDigests, ValueDigests};

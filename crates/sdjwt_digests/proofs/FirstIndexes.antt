@@ -108,3 +108,8 @@ pub index_step : (m : BTreeMap (Bor Utf8) ℕ) (i : ℕ) (y : Utf8) (xs : List U
     → update bytes_eq (index_at m) y (Some i) x ≡ first_index x (xs ++ y ∷ [])
 index_step m i y xs x old size new =
     ap₂ (λ n o. cond (bytes_eq y x) (Some n) o) (sym size) old ∙ site_step x xs y new
+
+-- the digests of disclosures in memory
+pub digests_said : (ds : List Disclosure) → map (λ l. l.digest) (map said ds) ≡ map own_digest ds
+digests_said [] = refl
+digests_said (d ∷ ds) = ap (λ xs. own_digest d ∷ xs) (digests_said ds)

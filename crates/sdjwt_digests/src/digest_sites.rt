@@ -3,10 +3,9 @@ ghost use Rattle.std.specs.Prelude.{◌≡◌, ◌==◌, ◌++◌, IfOk, OnOk, m
 ghost use Rattle.serde_json.specs.Events.{members_len};
 ghost use Rattle.serde_json.specs.View.{view, items_view, members_view};
 ghost use Rattle.serde_json.specs.Find.{as_array, get_member};
-ghost use Rattle.sdjwt_digests.specs.code.Disclosures.{site_of};
+ghost use Rattle.sdjwt_digests.specs.code.Disclosures.{site_of, sites_said};
 ghost use Rattle.sdjwt_digests.specs.DigestSites.{sd, placeholder, digest_at, sites_in, sites_in_items};
 ghost use Rattle.sdjwt_digests.specs.DigestSites.{sites_in_members, listed, in_object};
-ghost use Rattle.sdjwt_digests.specs.DigestSites.{all_sites, values_sites};
 ghost use Rattle.sdjwt_digests.specs.Disclosure.{said};
 
 use crate::disclosure::Disclosure;
@@ -60,34 +59,77 @@ pub enum Site<'a> {
     InList(&'a str),
 }
 
-/// The sites in the payload and in the disclosures' values.
-pub fn gather_all<'a>(
-    alloc: Global,
-    payload: &'a Value,
-    list: &'a [Disclosure],
-) -> Result<Vec<Site<'a>>, AllocError>
-    ensures { IfOk result
-        (λ sites. map site_of sites.items ≡ all_sites (view payload.now) (map said list.now)) }
+/// The sites of digests in a credential: those in its payload, and those in the value of each disclosure, in
+/// the order of the disclosures.
+#[derive(Drop)]
+pub struct Sites<'a> {
+    pub payload: Vec<Site<'a>>,
+    pub values: Vec<Vec<Site<'a>>>,
+}
+
+impl<'a> Sites<'a> {
+    ghost use Rattle.sdjwt_digests.specs.code.Sites.{AreSitesOf, all_in};
+
+    /// The sites in the payload and in the disclosures' values.
+    pub fn gather(
+        alloc: Global,
+        payload: &'a Value,
+        list: &'a [Disclosure],
+    ) -> Result<Sites<'a>, AllocError>
+        ensures { IfOk result (λ sites. AreSitesOf sites (view payload.now) (map said list.now)) }
+    {
+        let payload = value_sites(alloc, payload)?;
+        let values = list_sites(alloc, list)?;
+        Ok(Sites { payload, values })
+    }
+
+    /// The digests at all sites.
+    pub fn digests(&self, alloc: Global) -> Result<Vec<&'a str>, AllocError>
+        ensures { IfOk result (λ v. map (λ s. s.now) v.items ≡ map digest_at (all_in self.now)) }
+    {
+        let mut digests = Vec::new(alloc);
+        add_digests(&self.payload, &mut digests)?;
+        for sites in &self.values {
+            add_digests(sites, &mut digests)?;
+        }
+        Ok(digests)
+    }
+}
+
+// The sites in each disclosure's value.
+fn list_sites<'a>(alloc: Global, list: &'a [Disclosure]) -> Result<Vec<Vec<Site<'a>>>, AllocError>
+    ensures { IfOk result (λ v. map sites_said v.items ≡ map (λ l. sites_in l.value) (map said list.now)) }
+{
+    let mut values = Vec::with_capacity(alloc, list.len())?;
+    for disclosure in list {
+        values.push(value_sites(alloc, disclosure.value())?)?;
+    }
+    Ok(values)
+}
+
+// The sites in a value.
+fn value_sites<'a>(alloc: Global, value: &'a Value) -> Result<Vec<Site<'a>>, AllocError>
+    ensures { IfOk result (λ v. sites_said v ≡ sites_in (view value.now)) }
 {
     let mut sites = Vec::new(alloc);
-    gather(payload, &mut sites)?;
-    gather_values(list, &mut sites)?;
+    gather(value, &mut sites)?;
     Ok(sites)
 }
 
-fn gather_values<'a>(list: &'a [Disclosure], sites: &mut Vec<Site<'a>>) -> Result<(), AllocError>
-    ensures { OnOk result (map site_of sites.new.items ≡ map site_of sites.old.items ++ values_sites
-        (map said list.now)) }
+fn add_digests<'a>(sites: &Vec<Site<'a>>, digests: &mut Vec<&'a str>) -> Result<(), AllocError>
+    ensures { OnOk result
+        (map (λ s. s.now) digests.new.items ≡ map (λ s. s.now) digests.old.items ++ map digest_at
+        (sites_said sites.now)) }
 {
-    for disclosure in list {
-        gather(disclosure.value(), sites)?;
+    for site in sites {
+        digests.push(site.digest())?;
     }
     Ok(())
 }
 
-/// Adds the sites in a value.
+// Adds the sites in a value.
 #[cycle(gather)]
-pub fn gather<'a>(value: &'a Value, sites: &mut Vec<Site<'a>>) -> Result<(), AllocError>
+fn gather<'a>(value: &'a Value, sites: &mut Vec<Site<'a>>) -> Result<(), AllocError>
     ensures { OnOk result
         (map site_of sites.new.items ≡ map site_of sites.old.items ++ sites_in (view value.now)) }
 {

@@ -32,6 +32,16 @@ impl<'a> Disclosures<'a> {
         }
     }
 
+    /// The place of the disclosure that has a digest, in the order of the text.
+    pub fn index_of(&self, digest: &str) -> Option<usize>
+        ensures { result ≡ first_index digest.now (map (λ l. l.digest) (all_said self.now)) }
+    {
+        match self.order.get(digest) {
+            Some(index) => Some(*index),
+            None => None,
+        }
+    }
+
     /// The disclosures in the order of the text.
     pub fn list(&self) -> &'a [Disclosure]
         ensures { map said result.now ≡ all_said self.now }

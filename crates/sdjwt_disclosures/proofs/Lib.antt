@@ -2,7 +2,7 @@ pub mod PutMembers
 pub mod SpelledValues
 pub mod Orders
 pub mod MemberMaps
-pub mod ReachedDigests
+pub mod Clashes
 pub mod Claims
 pub mod ProcessingSteps
 pub mod Counting
@@ -14,3 +14,4 @@ pub mod Computed
 pub mod Built
 pub mod Uses
 pub mod ListedPlaceholders
+pub mod Marked

@@ -2,3 +2,4 @@
 pub mod SpelledItem
 pub mod MemberMap
 pub mod Processed
+pub mod Marked

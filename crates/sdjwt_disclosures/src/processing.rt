@@ -1,16 +1,13 @@
 // The processing of an SD-JWT (RFC 9901, section 7.1): its disclosures by the rules 7 to 14, and its claim
 // tree.
-ghost use Rattle.std.specs.Prelude.{◌≡◌, ◌++◌, true, IfOk, OnOk, map, option_map, is_some};
-ghost use Rattle.std.specs.List.{list_any, list_all};
-ghost use Rattle.std.specs.BTreeMap.{get_by};
-ghost use Rattle.std.specs.Ordering.{nat_cmp};
-ghost use Rattle.std.specs.Cmp.Lexicographic.{slice_cmp};
+ghost use Rattle.std.specs.Prelude.{◌≡◌, true, IfOk, map, option_map};
+ghost use Rattle.std.specs.List.{list_any};
 ghost use Rattle.serde_json.specs.View.{view};
 ghost use Rattle.base_forms.specs.Texts.{is_among, differ};
-ghost use Rattle.sdjwt_digests.specs.code.Disclosures.{all_said, site_of};
+ghost use Rattle.sdjwt_digests.specs.code.Disclosures.{all_said};
+ghost use Rattle.sdjwt_digests.specs.code.Sites.{AreSitesOf, all_in};
 ghost use Rattle.owned_tree.specs.Owned.{named_of};
-ghost use Rattle.sdjwt_digests.specs.DigestSites.{all_sites, digest_at};
-ghost use Rattle.sdjwt_disclosures.specs.Reachable.{are_reached};
+ghost use Rattle.sdjwt_digests.specs.DigestSites.{digest_at};
 ghost use Rattle.sdjwt_disclosures.specs.MemberNames.{has_clash};
 ghost use Rattle.sdjwt_disclosures.specs.Processed.{IsProcessed};
 ghost use Rattle.sdjwt_disclosures.specs.code.Processed.{IsOwnProcessed};
@@ -21,15 +18,14 @@ ghost use Rattle.sdjwt_disclosures.specs.DisclosedTree.{spelled_payload};
 
 use crate::disclosed_tree::spell_members;
 use crate::member_names::{disclosed_names, has_clash};
-use crate::reachable::{add_digests, add_reachable};
+use crate::reachable::are_reached;
 use crate::site_kinds::has_mismatch;
-use base_forms::{are_distinct, set_of};
+use base_forms::are_distinct;
 use owned_tree::OwnedMember;
-use sdjwt_digests::digest_sites::{Site, gather_all};
+use sdjwt_digests::digest_sites::Sites;
 use sdjwt_digests::{Disclosure, Disclosures, reserved_names_rule};
 use serde_json::Value;
 use std::alloc::{AllocError, Global};
-use std::collections::BTreeMap;
 
 const INNER_LEVELS: usize = 63;
 
@@ -51,7 +47,7 @@ pub fn process<'a>(
     if let Some(rule) = reserved_names_rule(payload, list) {
         return Ok(Processed::Broken(rule));
     }
-    let sites = gather_all(alloc, payload, list)?;
+    let sites = Sites::gather(alloc, payload, list)?;
     if !are_apart(alloc, &sites)? {
         return Ok(Processed::Broken(9));
     }
@@ -66,14 +62,14 @@ fn process_own<'a>(
     alloc: Global,
     payload: &'a Value,
     disclosures: &Disclosures<'a>,
-    sites: &Vec<Site<'a>>,
+    sites: &Sites<'a>,
 ) -> Result<Processed, AllocError>
     requires differ { differ (map (λ l. l.digest) (all_said disclosures.now)) ≡ true }
-    requires sites { map site_of sites.now.items ≡ all_sites (view payload.now) (all_said disclosures.now) }
+    requires sites { AreSitesOf sites.now (view payload.now) (all_said disclosures.now) }
     ensures { IfOk result
         (λ processed. IsOwnProcessed (view payload.now) (all_said disclosures.now) processed) }
 {
-    if !are_reached(alloc, payload, disclosures)? {
+    if !are_reached(alloc, disclosures, sites)? {
         return Ok(Processed::Broken(10));
     }
     if let Some(rule) = names_rule(alloc, payload, disclosures, sites)? {
@@ -86,46 +82,22 @@ fn process_own<'a>(
 }
 
 // Whether no two sites hold equal digests.
-fn are_apart(alloc: Global, sites: &Vec<Site<'_>>) -> Result<bool, AllocError>
-    ensures { IfOk result (λ b. b ≡ differ (map digest_at (map site_of sites.now.items))) }
+fn are_apart(alloc: Global, sites: &Sites<'_>) -> Result<bool, AllocError>
+    ensures { IfOk result (λ b. b ≡ differ (map digest_at (all_in sites.now))) }
 {
-    let mut digests = Vec::new(alloc);
-    add_digests(sites, &mut digests)?;
+    let digests = sites.digests(alloc)?;
     are_distinct(alloc, &digests)
 }
 
-// Whether the digest of each disclosure is reached from the payload.
-fn are_reached<'a>(
-    alloc: Global,
-    payload: &'a Value,
-    disclosures: &Disclosures<'a>,
-) -> Result<bool, AllocError>
-    ensures { IfOk result (λ b. b ≡ are_reached (view payload.now) (all_said disclosures.now)) }
-{
-    let list = disclosures.list();
-    let mut digests = Vec::new(alloc);
-    add_reachable(alloc, list.len() + 1, disclosures, payload, &mut digests)?;
-    let reached = set_of(alloc, &digests)?;
-    Ok(are_among(list, &reached))
-}
-
-fn are_among(list: &[Disclosure], digests: &BTreeMap<&str, ()>) -> bool
-    ensures { result ≡ list_all (λ l. is_some (get_by (λ k. slice_cmp nat_cmp l.digest k.now) digests.now))
-        (map said list.now) }
-{
-    list.iter()
-        .all(|disclosure| digests.contains_key(disclosure.digest()))
-}
-
 // The first of the rules 11 to 13 that is broken, on kinds and names of disclosures.
-#[tactic(auto, unfolding(base_forms::specs::Rules::rule, crate::specs::DisclosureRules::names_rule))]
+#[tactic(auto, using(crate::proofs::ProcessingSteps::tested_together), unfolding(base_forms::specs::Rules::rule, crate::specs::DisclosureRules::names_rule))]
 fn names_rule(
     alloc: Global,
     payload: &Value,
     disclosures: &Disclosures<'_>,
-    sites: &Vec<Site<'_>>,
+    sites: &Sites<'_>,
 ) -> Result<Option<u8>, AllocError>
-    requires { map site_of sites.now.items ≡ all_sites (view payload.now) (all_said disclosures.now) }
+    requires { AreSitesOf sites.now (view payload.now) (all_said disclosures.now) }
     ensures { IfOk result (λ o. o ≡ names_rule (view payload.now) (all_said disclosures.now)) }
 {
     if has_mismatch(disclosures, sites) {

@@ -1,5 +1,6 @@
 -- What the disclosures and the sites in memory say.
-use Rattle.std.specs.Prelude.{List, map}
+use Rattle.std.specs.Prelude.{List, Vec, map}
+use Rattle.std.specs.declared.alloc.Global.{Global}
 use Rattle.sdjwt_digests.specs.Disclosures.{Disclosed}
 use Rattle.sdjwt_digests.specs.DigestSites.{Site as TheirSite, in_object, in_list}
 use Rattle.sdjwt_digests.specs.declared.digest_sites.Site.{Site}
@@ -13,3 +14,6 @@ all_said ds = map said ds.list.now
 abbrev pub site_of : Site → TheirSite
 site_of (InObject s) = in_object s.now
 site_of (InList s) = in_list s.now
+
+abbrev pub sites_said : Vec Site Global → List TheirSite
+sites_said v = map site_of v.items

@@ -5,7 +5,7 @@ use Rattle.serde_json.specs.Find.{get_member}
 use Rattle.serde_json.specs.View.{members_view}
 use Rattle.base_forms.specs.Texts.{differ}
 use Rattle.sdjwt_digests.specs.code.Disclosures.{all_said}
-use Rattle.sdjwt_disclosures.proofs.ReachedDigests.{clash_rest}
+use Rattle.sdjwt_disclosures.proofs.Clashes.{clash_rest}
 use Rattle.sdjwt_disclosures.proofs.member_names.+clash.Goals as goal
 
 pub has_clash-returns-else-has_any_member : goal.has_clash-returns-else-has_any_member

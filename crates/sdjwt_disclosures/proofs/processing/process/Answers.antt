@@ -8,7 +8,9 @@ use Rattle.sdjwt_digests.specs.Disclosure.{said}
 use Rattle.sdjwt_digests.specs.DigestSites.{digest_at, all_sites}
 use Rattle.sdjwt_disclosures.specs.DisclosureRules.{reserved_names_rule, processing_rule}
 use Rattle.sdjwt_disclosures.specs.DisclosureRules.{own_site_rule}
-use Rattle.sdjwt_disclosures.proofs.ProcessingSteps.{first_here, first_past, last_here, digests_said}
+use Rattle.sdjwt_disclosures.proofs.ProcessingSteps.{first_here, first_past, last_here, all_together}
+use Rattle.sdjwt_digests.proofs.FirstIndexes.{digests_said}
+use Rattle.sdjwt_digests.specs.code.Sites.{AreSitesOf}
 use Rattle.sdjwt_disclosures.proofs.ProcessingSteps.{not_differ, not_apart, all_apart}
 use Rattle.sdjwt_disclosures.proofs.ProcessingSteps.{none_if, own_result}
 use Rattle.sdjwt_disclosures.proofs.processing.process.Goals as goal
@@ -23,7 +25,8 @@ returns-then-not-branch c =
     let m : reserved_names_rule (view c.args.payload.now) (map said c.args.list.now) ≡ None =
     sym c.reserved_names_rule.ensures ∙ none_if c.reserved_names_rule.result c.in_default.not-Some in
     let d : differ (map digest_at (all_sites (view c.args.payload.now) (map said c.args.list.now))) ≡ false =
-    ap (λ ss. differ (map digest_at ss)) (sym c.in_ok-sites.ensures)
+    ap (λ ss. differ (map digest_at ss))
+    (sym (all_together _ _ _ c.in_ok-sites.ensures))
     ∙ sym c.in_ok-are_apart.ensures ∙ c.if-not-branch.true in
     first_past _ _ m ∙ first_here _ _ 9 (not_apart (view c.args.payload.now) (map said c.args.list.now) d)
 
@@ -40,7 +43,7 @@ process_own-requires-clause-sites c =
     let all : all_said c.in-Some-2.disclosures ≡ map said c.args.list.now =
     subst (λ o. IfSome o (λ ds. all_said ds ≡ map said c.args.list.now)) c.in-Some-2.is
     c.in_ok-disclosures.ensures.list in
-    c.in_ok-sites.ensures ∙ ap (all_sites (view c.args.payload.now)) (sym all)
+    subst (λ ls. AreSitesOf c.in_ok-sites.sites (view c.args.payload.now) ls) (sym all) c.in_ok-sites.ensures
 
 pub returns-in-Some-2 : goal.returns-in-Some-2
 returns-in-Some-2 c =
@@ -50,7 +53,8 @@ returns-in-Some-2 c =
     let m : reserved_names_rule (view c.args.payload.now) (map said c.args.list.now) ≡ None =
     sym c.reserved_names_rule.ensures ∙ none_if c.reserved_names_rule.result c.in_default.not-Some in
     let d : differ (map digest_at (all_sites (view c.args.payload.now) (map said c.args.list.now))) ≡ true =
-    ap (λ ss. differ (map digest_at ss)) (sym c.in_ok-sites.ensures)
+    ap (λ ss. differ (map digest_at ss))
+    (sym (all_together _ _ _ c.in_ok-sites.ensures))
     ∙ sym c.in_ok-are_apart.ensures ∙ c.if-not-branch.false in
     own_result (view c.args.payload.now) (map said c.args.list.now)
     (all_said c.in-Some-2.disclosures) all m
@@ -63,7 +67,8 @@ returns c =
     let m : reserved_names_rule (view c.args.payload.now) (map said c.args.list.now) ≡ None =
     sym c.reserved_names_rule.ensures ∙ none_if c.reserved_names_rule.result c.in_default.not-Some in
     let d : differ (map digest_at (all_sites (view c.args.payload.now) (map said c.args.list.now))) ≡ true =
-    ap (λ ss. differ (map digest_at ss)) (sym c.in_ok-sites.ensures)
+    ap (λ ss. differ (map digest_at ss))
+    (sym (all_together _ _ _ c.in_ok-sites.ensures))
     ∙ sym c.in_ok-are_apart.ensures ∙ c.if-not-branch.false in
     let same : differ (map (λ l. l.digest) (map said c.args.list.now)) ≡ false =
     ap differ (digests_said c.args.list.now) ∙ sym c.in_ok-disclosures.ensures.differ

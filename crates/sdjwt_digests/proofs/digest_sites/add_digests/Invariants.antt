@@ -1,7 +1,7 @@
 use Rattle.std.proofs.Common.{◌≡◌, ◌++◌, drop, map}
 use Rattle.sdjwt_digests.specs.code.Disclosures.{site_of}
 use Rattle.sdjwt_digests.specs.DigestSites.{digest_at}
-use Rattle.sdjwt_disclosures.proofs.reachable.add_digests.Given as goal
+use Rattle.sdjwt_digests.proofs.digest_sites.add_digests.Given as goal
 
 abbrev pub invariant-loop-site : goal.invariant-loop-site
 invariant-loop-site l =
