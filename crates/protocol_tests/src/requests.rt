@@ -1,9 +1,10 @@
-// Signed requests: each rule broken once, the least of two, and what is asked.
+// Signed requests: each rule broken once, the least of two, what is asked, and what a site makes.
 use claim_tree::{KeyName, SignAlg};
+use dcql_query::Query;
 use json_forms::{has_float, read_json};
 use jws_envelope::Draft;
 use key_device::{KeyDevice, MemoryDevice};
-use request_object::{Clients, Error, Request};
+use request_object::{Asked, Clients, Error, Request, make_object};
 use std::alloc::Global;
 use std::test::Fail;
 
@@ -145,6 +146,74 @@ fn each_rule_of_a_link(rt: HostRuntime) -> Result<(), Fail> {
 fn no_query(rt: HostRuntime) -> Result<(), Fail> {
     let alloc = rt.alloc();
     assert!(rt; answer(alloc, "oauth-authz-req+jwt", "", r#""x":1"#, "")? == (20, 0));
+    Ok(())
+}
+
+// Whether a request asks what the site below asks.
+fn is_asked(request: &Request, nonce: &str, uri: &str) -> bool {
+    let asked = request.asked();
+    asked.query.len() == 1
+        && asked.client == "rp.example"
+        && asked.nonce == nonce
+        && asked.uri == uri
+        && request.state() == Some("s")
+}
+
+// The answer to the object that a site makes with this nonce and address, where the call of this number of
+// the device fails: 0 where it is read as asked.
+fn made(alloc: Global, nonce: &str, uri: &str, failing: u64) -> Result<u8, Fail> {
+    let key = KeyName::from_text(alloc, "k")?;
+    let mut device = MemoryDevice::new(alloc, &[KeyName::from_text(alloc, "k")?])?;
+    device.fail_at(failing)?;
+    let text = r#"{"credentials":[{"id":"a","format":"dc+sd-jwt"}]}"#;
+    let Some(json) = read_json(alloc, text.as_bytes())? else {
+        return Ok(255);
+    };
+    let Ok(query) = Query::from_json(alloc, &json) else {
+        return Ok(253);
+    };
+    if has_float(&json) || device.holds(&key).is_none() {
+        return Ok(254);
+    }
+    let asked = Asked {
+        query: &query,
+        client: "rp.example",
+        nonce,
+        uri,
+    };
+    let Ok(object) = make_object(alloc, asked, &json, "s", &key, &mut device) else {
+        return Ok(249);
+    };
+    let Ok(clients) = Clients::read(alloc, "rp.example k\n") else {
+        return Ok(252);
+    };
+    match Request::read(alloc, object.as_str(), &clients, &mut device) {
+        Ok(request) if is_asked(&request, nonce, uri) => Ok(0),
+        Ok(_) => Ok(248),
+        Err(error) => Ok(number(Err(error)).0),
+    }
+}
+
+fn made_are_so(alloc: Global) -> Result<bool, Fail> {
+    for (nonce, uri, failing, wanted) in [
+        ("n-1._~Z", "http://localhost:8080/response", 9, 0),
+        ("n", "https://site.example/", 9, 0),
+        ("n", "x", 9, 15),
+        ("", "https://site.example/", 9, 16),
+        ("a b", "https://site.example/", 9, 16),
+        ("n", "https://site.example/", 0, 249),
+        ("n", "https://site.example/", 1, 251),
+    ] {
+        if made(alloc, nonce, uri, failing)? != wanted {
+            return Ok(false);
+        }
+    }
+    Ok(true)
+}
+
+#[test]
+fn what_a_site_makes(rt: HostRuntime) -> Result<(), Fail> {
+    assert!(rt; made_are_so(rt.alloc())?);
     Ok(())
 }
 

@@ -9,7 +9,7 @@ use Rattle.request_clients.specs.Clients.{Client}
 use Rattle.request_object.specs.Front.{front_rule}
 use Rattle.request_object.specs.Laws.{EndsAs, EndsAsAsked}
 use Rattle.request_object.specs.Request.{Request, asked_by, is_signed, later_rule, judged_tree, message_of}
-use Rattle.request_object.specs.declared.error.RequestRule.{RequestRule}
+use Rattle.request_content.specs.declared.error.RequestRule.{RequestRule}
 
 first_one : (r : Option RequestRule) → first (r ∷ []) ≡ r
 first_one None = refl

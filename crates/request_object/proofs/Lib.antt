@@ -1,3 +1,5 @@
-pub mod Contents
+pub mod NoLink
+pub mod Signing
 pub mod Trees
 pub mod Endings
+pub mod ReadAsAsked

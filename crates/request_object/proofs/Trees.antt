@@ -18,17 +18,17 @@ use Rattle.runs.specs.Runs.{value, refused, Runs}
 use Rattle.runs.specs.Tree.{Tree, gives, unless}
 use Rattle.runs.specs.World.{World}
 use Rattle.runs.proofs.Trees.{runs_out, runs_past, runs_broken, runs_gives}
-use Rattle.request_object.specs.Content.{content_rule}
+use Rattle.request_content.specs.Content.{content_rule}
 use Rattle.request_object.specs.Endings.{early, ending}
 use Rattle.request_object.specs.Front.{envelope, client_rule, object_rule, front_rule}
 use Rattle.request_object.specs.Request.{Request, later_rule, judged_tree, request_tree}
-use Rattle.request_object.specs.Rules.{number, within}
+use Rattle.request_content.specs.Rules.{number, within}
 use Rattle.request_object.specs.code.Errors.{link_refusal, message_refusal, IsRefusal}
 use Rattle.request_object.specs.code.Parts.{message_tree, object_tree}
 use Rattle.request_object.specs.declared.error.Error.{Error}
 use Rattle.request_object.specs.declared.error.Error.TheVariants.{Refused, DeviceFault, NoMemory}
-use Rattle.request_object.specs.declared.error.RequestRule.{RequestRule}
-use Rattle.request_object.proofs.Contents.{first_of_one}
+use Rattle.request_content.specs.declared.error.RequestRule.{RequestRule}
+use Rattle.request_content.proofs.Contents.{first_of_one}
 
 -- ---- after the judgement
 
@@ -36,7 +36,7 @@ later_no : (payload : Data) → later_rule false payload ≡ Some (number 9)
 unfolding rule
 later_no payload = refl
 
-later_yes : (payload : Data) → later_rule true payload ≡ content_rule payload
+pub later_yes : (payload : Data) → later_rule true payload ≡ content_rule payload
 unfolding rule
 later_yes payload = first_of_one (content_rule payload)
 
@@ -73,11 +73,11 @@ runs_content read payload wanted result now is whole same refused_so =
 
 -- ---- the message of an object
 
-whole_parts : (r : Option ℕ) (x y : Envelope) → unless_broken r x ≡ Ok y → (r ≡ None) × (x ≡ y)
+pub whole_parts : (r : Option ℕ) (x y : Envelope) → unless_broken r x ≡ Ok y → (r ≡ None) × (x ≡ y)
 whole_parts None x y is = (refl, cc is)
 whole_parts (Some n) x y is = absurd (cc is)
 
-same_front : (clients : List Client) (outer : Option Text) (object : Text) (e : Envelope)
+pub same_front : (clients : List Client) (outer : Option Text) (object : Text) (e : Envelope)
     → jws_of object ≡ Ok e → object_rule clients outer object ≡ client_rule clients outer e
 same_front clients outer object e is =
     let p = whole_parts (jws_rule object) (envelope_of (dot_parts object)) e is in

@@ -4,7 +4,7 @@ use Rattle.runs.specs.Runs.{Ending, value, refused, fault, out_of_memory}
 use Rattle.runs.specs.declared.fault.Fault.TheVariants.{Device}
 use Rattle.request_object.specs.declared.error.Error.{Error}
 use Rattle.request_object.specs.declared.error.Error.TheVariants.{Refused, DeviceFault, NoMemory}
-use Rattle.request_object.specs.declared.error.RequestRule.{RequestRule}
+use Rattle.request_content.specs.declared.error.RequestRule.{RequestRule}
 
 abbrev pub early : {A : Type 0} → Error → Ending RequestRule A
 early (Refused rule) = refused rule

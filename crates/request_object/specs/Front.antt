@@ -13,8 +13,8 @@ use Rattle.jws_envelope.specs.Compact.{Text, dot_parts}
 use Rattle.jws_envelope.specs.Envelope.{Envelope, jws_rule, envelope_of}
 use Rattle.request_clients.specs.Clients.{Client, key_of}
 use Rattle.request_links.specs.Link.{is_link, link_rule, link_of}
-use Rattle.request_object.specs.Rules.{number, within}
-use Rattle.request_object.specs.declared.error.RequestRule.{RequestRule}
+use Rattle.request_content.specs.Rules.{number, within}
+use Rattle.request_content.specs.declared.error.RequestRule.{RequestRule}
 
 -- ---- the object
 
@@ -41,9 +41,11 @@ abbrev pub client_of : Envelope → Text
 client_of e = text_of (codes "client_id") e.payload
 
 -- the type of a request object (RFC 9101, section 10.8)
+abbrev pub object_type : Text
+object_type = codes "oauth-authz-req+jwt"
+
 abbrev pub has_type : Data → Bool
-has_type header =
-    option_map_or (λ text. bytes_eq text (codes "oauth-authz-req+jwt")) (text_at (codes "typ") header) false
+has_type header = option_map_or (λ text. bytes_eq text object_type) (text_at (codes "typ") header) false
 
 -- there, and another than this text
 abbrev pub differs : Option Text → Text → Bool

@@ -7,7 +7,7 @@ use Rattle.runs.specs.declared.fault.Fault.TheVariants.{Device}
 use Rattle.request_clients.specs.Clients.{Client}
 use Rattle.request_object.specs.Front.{front_rule}
 use Rattle.request_object.specs.Request.{Request, request_of, request_tree}
-use Rattle.request_object.specs.declared.error.RequestRule.{RequestRule}
+use Rattle.request_content.specs.declared.error.RequestRule.{RequestRule}
 
 -- With what is asked, or with the first broken rule. Where the device failed, none of the first rules is
 -- broken; memory may run out.

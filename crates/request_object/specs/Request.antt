@@ -12,10 +12,10 @@ use Rattle.dcql_query.specs.Meaning.{meaning_of}
 use Rattle.key_device.specs.Calls.{Judges}
 use Rattle.runs.specs.Tree.{Tree, gives, needs, judge, unless}
 use Rattle.request_clients.specs.Clients.{Client, key_of}
-use Rattle.request_object.specs.Content.{content_rule, query_in}
+use Rattle.request_content.specs.Content.{content_rule, query_in}
 use Rattle.request_object.specs.Front.{object_of, envelope, text_of, client_of, front_rule}
-use Rattle.request_object.specs.Rules.{number}
-use Rattle.request_object.specs.declared.error.RequestRule.{RequestRule}
+use Rattle.request_content.specs.Rules.{number}
+use Rattle.request_content.specs.declared.error.RequestRule.{RequestRule}
 
 -- what is asked, and the state that the response has to carry
 pub record Request : Type 0 where

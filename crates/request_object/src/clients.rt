@@ -6,10 +6,10 @@ ghost use Rattle.request_clients.specs.Clients.{key_of};
 ghost use Rattle.request_object.specs.Front.{client_rule, has_type, differs};
 ghost use Rattle.request_object.specs.Front.{client_of, text_of, is_no_client, begins};
 
-use crate::error::{RequestRule, rule};
 use json_forms::text_at;
 use jws_envelope::Jws;
 use request_clients::Clients;
+use request_content::{RequestRule, rule};
 use serde_json::Value;
 
 /// The first of the rules 5 to 8 that is broken.

@@ -1,21 +1,15 @@
-// Why no request is read.
+// Why no request is read or made.
 ghost use Rattle.std.specs.Prelude.{◌≡◌};
-ghost use Rattle.request_object.specs.Rules.{number as plain};
 ghost use Rattle.request_object.specs.code.Errors as of;
 
+use key_device::SignError;
+use request_content::{RequestRule, rule};
 use std::alloc::AllocError;
 
-/// A broken rule: its number, and the number of the rule within it where it has a table of its own, else 0.
-#[derive(Clone, Copy, Debug, PartialEq, Eq)]
-pub struct RequestRule {
-    pub number: u8,
-    pub inner: u8,
-}
-
-/// Why no request was read.
+/// Why no request was read or made.
 #[derive(Clone, Copy, Debug, PartialEq, Eq)]
 pub enum Error {
-    /// The first rule that is broken.
+    /// The first rule that is broken. No request that is made is refused.
     Refused(RequestRule),
     /// The device failed.
     DeviceFault,
@@ -34,11 +28,15 @@ impl From<AllocError> for Error {
     }
 }
 
-/// A rule with no table of its own.
-pub(crate) fn rule(number: u8) -> RequestRule
-    ensures { result ≡ plain number }
-{
-    RequestRule { number, inner: 0 }
+impl From<jws_envelope::NoMemory> for Error {
+    ghost use Rattle.std.specs.Prelude.{◌≡◌};
+    ghost use Rattle.request_object.specs.declared.error.Error.TheVariants.{NoMemory as OutOfMemory};
+
+    ghost from_gives = { λ _ error. error ≡ OutOfMemory };
+
+    fn from(_: jws_envelope::NoMemory) -> Self {
+        Error::NoMemory
+    }
 }
 
 /// The refusal of a link, by rules 1 to 3.
@@ -61,12 +59,22 @@ pub(crate) fn message_refusal(error: jws_envelope::Error) -> Error
     }
 }
 
-/// The refusal of a query, by rule 21.
-pub(crate) fn query_refusal(error: dcql_query::Error) -> Error
-    ensures { result ≡ of.query_refusal error }
+/// The refusal of a message's parameters, by rules 10 to 21.
+pub(crate) fn content_refusal(error: request_content::Error) -> Error
+    ensures { result ≡ of.content_refusal error }
 {
     match error {
-        dcql_query::Error::Refused(inner) => Error::Refused(RequestRule { number: 21, inner }),
-        dcql_query::Error::NoMemory => Error::NoMemory,
+        request_content::Error::Refused(rule) => Error::Refused(rule),
+        request_content::Error::NoMemory => Error::NoMemory,
+    }
+}
+
+/// Why the device signed nothing.
+pub(crate) fn sign_refusal(error: SignError) -> Error
+    ensures { result ≡ of.sign_refusal error }
+{
+    match error {
+        SignError::Failed => Error::DeviceFault,
+        SignError::NoMemory => Error::NoMemory,
     }
 }

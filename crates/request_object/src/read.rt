@@ -13,11 +13,12 @@ ghost use Rattle.request_object.specs.code.Parts.{object_tree, message_tree};
 
 use crate::clients::{client_of, client_rule};
 use crate::content::read_content;
-use crate::error::{Error, link_refusal, message_refusal, rule};
+use crate::error::{Error, link_refusal, message_refusal};
 use crate::request::Request;
 use jws_envelope::Jws;
 use key_device::{Judged, KeyDevice};
 use request_clients::Clients;
+use request_content::rule;
 use request_links::read_link;
 use std::alloc::Global;
 

@@ -6,7 +6,7 @@ use Rattle.runs.specs.Tree.{Tree, unless}
 use Rattle.request_clients.specs.Clients.{Client}
 use Rattle.request_object.specs.Front.{envelope, client_rule, object_rule}
 use Rattle.request_object.specs.Request.{Request, judged_tree}
-use Rattle.request_object.specs.declared.error.RequestRule.{RequestRule}
+use Rattle.request_content.specs.declared.error.RequestRule.{RequestRule}
 
 -- rules 5 to 21, of a message with these parts
 abbrev pub message_tree : List Client → Option Text → Envelope → Tree RequestRule Request

@@ -10,21 +10,21 @@ use Rattle.serde_json.specs.Find.{get, as_str}
 use Rattle.base_forms.specs.Rules.{rule, first}
 use Rattle.base_forms.specs.Url64.{is_url64}
 use Rattle.json_forms.specs.Look.{text_at, elements_of, is_empty}
-use Rattle.jws_envelope.specs.Compact.{Text}
+use Rattle.base_forms.specs.Texts.{Utf8}
 use Rattle.dcql_rules.specs.Rules.{query_rule}
 use Rattle.url.specs.Parser.{parse_url}
-use Rattle.request_object.specs.Rules.{number, within}
-use Rattle.request_object.specs.declared.error.RequestRule.{RequestRule}
+use Rattle.request_content.specs.Rules.{number, within}
+use Rattle.request_content.specs.declared.error.RequestRule.{RequestRule}
 
-abbrev pub has : Text → Data → Bool
+abbrev pub has : Utf8 → Data → Bool
 has name payload = is_some (get name payload)
 
 -- the member of this name is this text
-abbrev pub is_text_at : Text → Text → Data → Bool
+abbrev pub is_text_at : Utf8 → Utf8 → Data → Bool
 is_text_at name text payload = option_map_or (λ t. bytes_eq t text) (text_at name payload) false
 
 -- there, and no text
-abbrev pub is_no_text : Text → Data → Bool
+abbrev pub is_no_text : Utf8 → Data → Bool
 is_no_text name payload = has name payload && is_none (text_at name payload)
 
 -- a request stands inside the request, or a reference to one
@@ -34,7 +34,7 @@ has_request payload = has (codes "request") payload || has (codes "request_uri")
 -- ---- audience
 
 -- the audience of a request to a wallet that is found without its metadata (section 5.8)
-abbrev pub wallet : Text
+abbrev pub wallet : Utf8
 wallet = codes "https://self-issued.me/v2"
 
 abbrev pub is_wallet : Data → Bool
@@ -54,14 +54,14 @@ is_for_wallet payload = option_map_or is_audience (get (codes "aud") payload) tr
 abbrev pub is_unreserved : ℕ → Bool
 is_unreserved byte = is_url64 byte || (byte == 46 || byte == 126)
 
-abbrev pub is_nonce : Text → Bool
+abbrev pub is_nonce : Utf8 → Bool
 is_nonce text = not (is_empty text) && list_all is_unreserved text
 
 abbrev pub has_nonce : Data → Bool
 has_nonce payload = option_map_or is_nonce (text_at (codes "nonce") payload) false
 
 -- an absolute URL (URL Standard, section 4.4)
-abbrev pub is_address : Text → Bool
+abbrev pub is_address : Utf8 → Bool
 is_address text = is_ok (parse_url None text)
 
 abbrev pub has_address : Data → Bool

@@ -1,7 +1,7 @@
 // Response addresses.
 ghost use Rattle.std.specs.Prelude.{◌≡◌, IfOk, false};
 ghost use Rattle.serde_json.specs.View.{view};
-ghost use Rattle.request_object.specs.Content.{is_address, has_address};
+ghost use Rattle.request_content.specs.Content.{is_address, has_address};
 
 use json_forms::text_at;
 use serde_json::Value;

@@ -2,9 +2,9 @@
 ghost use Rattle.std.specs.Prelude.{◌≡◌, codes, false, map};
 ghost use Rattle.std.specs.List.{list_all, list_any};
 ghost use Rattle.serde_json.specs.View.{view};
-ghost use Rattle.request_object.specs.Content.{response_rule, session_rule, is_text_at, has, has_request};
-ghost use Rattle.request_object.specs.Content.{has_nonce, is_nonce, is_unreserved, is_no_text};
-ghost use Rattle.request_object.specs.Content.{is_wallet, is_audience, is_for_wallet};
+ghost use Rattle.request_content.specs.Content.{response_rule, session_rule, is_text_at, has, has_request};
+ghost use Rattle.request_content.specs.Content.{has_nonce, is_nonce, is_unreserved, is_no_text};
+ghost use Rattle.request_content.specs.Content.{is_wallet, is_audience, is_for_wallet};
 
 use crate::error::{RequestRule, rule};
 use json_forms::{elements, text_at};

@@ -3,8 +3,8 @@ use Rattle.std.proofs.lemmas.Iterator.{YieldsList-from_slice}
 use Rattle.std.proofs.lemmas.Iterator.Search.{any_from_yields_List}
 use Rattle.base_forms.proofs.Lists.{list_any-map}
 use Rattle.serde_json.specs.View.{view}
-use Rattle.request_object.specs.Content.{is_wallet}
-use Rattle.request_object.proofs.content_rules.have_wallet.Goals as goal
+use Rattle.request_content.specs.Content.{is_wallet}
+use Rattle.request_content.proofs.content_rules.have_wallet.Goals as goal
 
 pub returns : goal.returns
 returns c =

@@ -1,6 +1,6 @@
 -- Rules of a table, some of which stand for a table within it.
 use Rattle.std.specs.Prelude.{ℕ, Option, option_map}
-use Rattle.request_object.specs.declared.error.RequestRule.{RequestRule}
+use Rattle.request_content.specs.declared.error.RequestRule.{RequestRule}
 
 -- the rule of this number, which stands for no table
 abbrev pub number : ℕ → RequestRule

@@ -1,10 +1,11 @@
 -- The table of a payload's rules, stage by stage.
-use Rattle.std.proofs.Common.{◌≡◌, Bool, true, false, Option, Some, None, refl, ap, ◌∙◌, not, ◌∷◌, []}
+use Rattle.std.proofs.Common.{◌≡◌, ℕ, Bool, true, false, Option, Some, None, refl, ap, ◌∙◌, not, ◌∷◌, []}
+use Rattle.std.proofs.Common.{Result, Ok, Err, IfOk, IfErr}
 use Rattle.base_forms.specs.Rules.{first, rule}
-use Rattle.request_object.specs.Rules.{number}
-use Rattle.request_object.specs.code.Errors.{IsRefusal}
-use Rattle.request_object.specs.declared.error.Error.{Error}
-use Rattle.request_object.specs.declared.error.RequestRule.{RequestRule}
+use Rattle.request_content.specs.Rules.{number, within}
+use Rattle.request_content.specs.code.Errors.{IsRefusal}
+use Rattle.request_content.specs.declared.error.Error.{Error}
+use Rattle.request_content.specs.declared.error.RequestRule.{RequestRule}
 
 -- rules 10 to 14, whether there is a response address, rules 16 to 20 and the rule of the query
 abbrev pub table : Option RequestRule → Bool → Option RequestRule → Option RequestRule → Option RequestRule
@@ -49,6 +50,14 @@ query_rule_is response has_address session query whole is none =
     ∙ ap (λ (s : Option RequestRule). first (s ∷ query ∷ [])) none
     ∙ first_of_one query
 
-pub refused_by : (broken table : Option RequestRule) (error : Error) → table ≡ broken
-    → IsRefusal broken error → IsRefusal table error
-refused_by broken table error same is = rw same is
+-- the query was read, or refused
+pub query_read : {Q : Type 0} (table : Option RequestRule) (broken : Option ℕ) (read : Result Q Error)
+    → table ≡ within 21 broken → IfOk read (λ q. broken ≡ None) → IfOk read (λ q. table ≡ None)
+query_read table broken (Ok q) same none = same ∙ ap (within 21) none
+query_read table broken (Err error) same none = tt
+
+pub query_refused : {Q : Type 0} (table query : Option RequestRule) (read : Result Q Error)
+    → table ≡ query → IfErr read (λ error. IsRefusal query error)
+    → IfErr read (λ error. IsRefusal table error)
+query_refused table query (Ok q) same is = tt
+query_refused table query (Err error) same is = rw same is
