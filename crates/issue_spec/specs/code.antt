@@ -1,0 +1,2 @@
+-- What ties the code to the definitions: what a spec in memory asks.
+pub mod Asking

@@ -1,0 +1,16 @@
+use Rattle.std.proofs.Common.{◌≡◌, drop}
+use Rattle.serde_json.specs.View.{items_view, members_view}
+use Rattle.serde_json.specs.Written.{items_have_float, members_have_float}
+use Rattle.mdoc_spec.specs.code.Texts.{AreStored, HoldStored}
+use Rattle.mdoc_spec.proofs.integers.+fraction.Given as goal
+
+abbrev pub invariant-items_have_fraction-loop-item : goal.invariant-items_have_fraction-loop-item
+invariant-items_have_fraction-loop-item l =
+    (items_have_float (items_view (drop l.item-index l.item-items)) ≡ items_have_float
+    (items_view l.item-items))
+    × (AreStored (items_view (drop l.item-index l.item-items)) → AreStored (items_view l.item-items))
+
+abbrev pub invariant-members_have_fraction-loop-name : goal.invariant-members_have_fraction-loop-name
+invariant-members_have_fraction-loop-name l =
+    (members_have_float (members_view l.name-iterator) ≡ members_have_float (members_view l.object.entries))
+    × (HoldStored (members_view l.name-iterator) → HoldStored (members_view l.object.entries))

@@ -1,0 +1,11 @@
+use Rattle.std.proofs.Common.{◌≡◌}
+use Rattle.serde_json.specs.View.{members_view}
+use Rattle.mdoc_spec.specs.Elements.{has_misspelled_element}
+use Rattle.mdoc_spec.proofs.spelling.has_misspelled_element.Given as goal
+
+abbrev pub invariant-loop-namespace : goal.invariant-loop-namespace
+invariant-loop-namespace l =
+    (goal.iterator-loop-namespace).can_next l.namespace-iterator
+    × (goal.iterator-loop-namespace).is_finite l.namespace-iterator
+    × (has_misspelled_element (members_view l.namespace-iterator) ≡ has_misspelled_element
+    (members_view l.namespaces.entries))

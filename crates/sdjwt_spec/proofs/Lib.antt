@@ -1,0 +1,3 @@
+pub mod AllSome
+pub mod Few
+pub mod WellFormed

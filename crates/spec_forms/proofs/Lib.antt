@@ -1,0 +1,3 @@
+pub mod Deeper
+pub mod Parts
+pub mod Tables
