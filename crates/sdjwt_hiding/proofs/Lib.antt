@@ -12,6 +12,7 @@ pub mod Numbers
 pub mod Payload
 pub mod Floats
 pub mod Below
+pub mod Placing
 pub mod WalkSteps
 pub mod Plainly
 pub mod Example

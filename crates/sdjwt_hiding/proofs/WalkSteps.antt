@@ -1,6 +1,6 @@
 -- One step of each loop of the walk.
-use Rattle.std.proofs.Common.{◌≡◌, ◌≤◌, ℕ, zero, suc, ◌+◌, true, false, cond, List, [], ◌∷◌, ◌++◌, map}
-use Rattle.std.proofs.Common.{length, drop, get_or, ◌<◌, Option, Some, None, option_map, refl, sym, ap, ap₂}
+use Rattle.std.proofs.Common.{◌≡◌, ◌≤◌, ℕ, zero, suc, ◌+◌, true, false, List, [], ◌∷◌, ◌++◌, map}
+use Rattle.std.proofs.Common.{length, drop, get_or, ◌<◌, Option, Some, None, refl, sym, ap, ap₂}
 use Rattle.std.proofs.Common.{subst, ◌∙◌, arith, append_assoc, append-nil}
 use Rattle.std.proofs.lemmas.Bool.{or_parts, and_from}
 use Rattle.serde_json.specs.Written.{has_float, items_have_float, members_have_float}
@@ -28,32 +28,9 @@ use Rattle.claim_names.specs.declared.address.Step.{Step}
 use Rattle.sdjwt_hiding.specs.Hiding.{Marks, under, at, standing, with_digests, with_member, with_digest}
 use Rattle.sdjwt_hiding.specs.Hiding.{hidden, hidden_items, left_members, own_digests, Numbered, taken, met}
 use Rattle.sdjwt_hiding.specs.Hiding.{met_items, met_members}
-use Rattle.sdjwt_hiding.specs.Addresses.{same_address, number_in}
 use Rattle.sdjwt_hiding.specs.Disclosing.{by_sha256, told, all_told, IsReadBack}
 use Rattle.sdjwt_hiding.specs.code.Walk.{marks_at, put_staying}
-
--- ---- the place of an address
-
-abbrev pub shifted : ℕ → Option ℕ → Option ℕ
-shifted n o = option_map (λ k. n + k) o
-
-pub shifted_none : (o : Option ℕ) → shifted 0 o ≡ o
-shifted_none None = refl
-shifted_none (Some k) = let same : 0 + k ≡ k = omega arith in ap Some same
-
-shifted_suc : (n : ℕ) (o : Option ℕ) → shifted n (option_map suc o) ≡ shifted (n + 1) o
-shifted_suc n None = refl
-shifted_suc n (Some k) = let same : n + suc k ≡ n + 1 + k = omega arith in ap Some same
-
-pub number_past : (n : ℕ) (h : List Step) (hs : List (List Step)) (a : List Step) → same_address h a ≡ false
-    → shifted n (number_in (h ∷ hs) a) ≡ shifted (n + 1) (number_in hs a)
-number_past n h hs a e = ap (λ b. shifted n (cond b (Some 0) (option_map suc (number_in hs a)))) e
-    ∙ shifted_suc n (number_in hs a)
-
-pub number_here : (n : ℕ) (h : List Step) (hs : List (List Step)) (a : List Step) → same_address h a ≡ true
-    → shifted n (number_in (h ∷ hs) a) ≡ Some n
-number_here n h hs a e = let same : n + 0 ≡ n = omega arith in
-    ap (λ b. shifted n (cond b (Some 0) (option_map suc (number_in hs a)))) e ∙ ap Some same
+use Rattle.sdjwt_hiding.specs.declared.addresses.Places.{Places}
 
 -- ---- elements
 
@@ -236,30 +213,30 @@ keeps_member m k v rest all written after digests more made between next old inn
     }
 
 -- the same with the names and the path as the calls have them
-pub keeps_named : (hide : List (List Step)) (p q : List Step) (j i k : Utf8) (v : Data)
+pub keeps_named : (places : Places) (p q : List Step) (j i k : Utf8) (v : Data)
     (it rest all written after : Fields) (digests more : List Utf8)
     (made between next old : List (ℕ × Utf8 × Utf8)) (inner : Data) (o : Option ℕ)
-    → KeepsMembers (marks_at hide p) it all written digests made old → q ≡ p → j ≡ k → i ≡ k
+    → KeepsMembers (marks_at places p) it all written digests made old → q ≡ p → j ≡ k → i ≡ k
     → it ≡ field k v rest
-    → inner ≡ hidden by_sha256 (under (Name j) (marks_at hide q)) v → o ≡ at (Name j) (marks_at hide q)
-    → between ≡ made ++ all_told (met by_sha256 (under (Name j) (marks_at hide q)) v)
+    → inner ≡ hidden by_sha256 (under (Name j) (marks_at places q)) v → o ≡ at (Name j) (marks_at places q)
+    → between ≡ made ++ all_told (met by_sha256 (under (Name j) (marks_at places q)) v)
     → after ≡ put_staying o i inner written → more ≡ digests ++ with_digest by_sha256 o i inner []
     → next ≡ between ++ all_told (taken by_sha256 o (Some i) inner)
-    → AllByRecursion IsReadBack (met by_sha256 (under (Name j) (marks_at hide q)) v)
+    → AllByRecursion IsReadBack (met by_sha256 (under (Name j) (marks_at places q)) v)
     → AllByRecursion IsReadBack (taken by_sha256 o (Some i) inner)
-    → KeepsMembers (marks_at hide p) rest all after more next old
-keeps_named hide p q j i k v it rest all written after digests more made between next old inner o h is_path
+    → KeepsMembers (marks_at places p) rest all after more next old
+keeps_named places p q j i k v it rest all written after digests more made between next old inner o h is_path
     is_j is_i is_it value number one two three four below own =
-    keeps_member (marks_at hide p) k v rest all written after digests more made between next old inner o
-    (subst (λ r. KeepsMembers (marks_at hide p) r all written digests made old) is_it h)
-    (value ∙ ap₂ (λ a b. hidden by_sha256 (under (Name a) (marks_at hide b)) v) is_j is_path)
-    (number ∙ ap₂ (λ a b. at (Name a) (marks_at hide b)) is_j is_path)
-    (one ∙ ap₂ (λ a b. made ++ all_told (met by_sha256 (under (Name a) (marks_at hide b)) v)) is_j is_path)
+    keeps_member (marks_at places p) k v rest all written after digests more made between next old inner o
+    (subst (λ r. KeepsMembers (marks_at places p) r all written digests made old) is_it h)
+    (value ∙ ap₂ (λ a b. hidden by_sha256 (under (Name a) (marks_at places b)) v) is_j is_path)
+    (number ∙ ap₂ (λ a b. at (Name a) (marks_at places b)) is_j is_path)
+    (one ∙ ap₂ (λ a b. made ++ all_told (met by_sha256 (under (Name a) (marks_at places b)) v)) is_j is_path)
     (two ∙ ap (λ a. put_staying o a inner written) is_i)
     (three ∙ ap (λ a. digests ++ with_digest by_sha256 o a inner []) is_i)
     (four ∙ ap (λ a. between ++ all_told (taken by_sha256 o (Some a) inner)) is_i)
-    (subst (λ b. AllByRecursion IsReadBack (met by_sha256 (under (Name k) (marks_at hide b)) v)) is_path
-    (subst (λ a. AllByRecursion IsReadBack (met by_sha256 (under (Name a) (marks_at hide q)) v)) is_j
+    (subst (λ b. AllByRecursion IsReadBack (met by_sha256 (under (Name k) (marks_at places b)) v)) is_path
+    (subst (λ a. AllByRecursion IsReadBack (met by_sha256 (under (Name a) (marks_at places q)) v)) is_j
     below))
     (subst (λ a. AllByRecursion IsReadBack (taken by_sha256 o (Some a) inner)) is_i own)
 

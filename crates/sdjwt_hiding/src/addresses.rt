@@ -1,42 +1,37 @@
-// Addresses among those of the parts to hide.
-ghost use Rattle.std.specs.Prelude.{◌≡◌};
-ghost use Rattle.sdjwt_hiding.specs.Addresses.{same_step, same_address, number_in};
+// The places of addresses among those of the parts to hide.
+ghost use Rattle.std.specs.Prelude.{◌≡◌, IfOk, List};
+ghost use Rattle.claim_names.specs.declared.address.Step.{Step as AStep};
+ghost use Rattle.sdjwt_hiding.specs.Addresses.{number_in};
+ghost use Rattle.sdjwt_hiding.specs.code.Places.{place_in};
 
+use crate::error::NoMemory;
 use claim_tree::{Address, Step};
+use std::alloc::Global;
+use std::collections::BTreeMap;
 
-// The place of an address among those to hide.
-#[tactic(auto, using(crate::proofs::WalkSteps::shifted_none, crate::proofs::WalkSteps::number_past, crate::proofs::WalkSteps::number_here))]
-pub fn number_of(hide: &[Address], path: &[Step]) -> Option<u64>
-    ensures { result ≡ number_in hide.now path.now }
-{
-    let mut number = 0u64;
-    for address in hide {
-        if is_same(address.steps(), path) {
-            return Some(number);
-        }
-        number += 1;
-    }
-    None
+// The place of each of some addresses among them, the first of those that are equal.
+#[derive(Drop)]
+pub struct Places<'a> {
+    order: BTreeMap<&'a [Step], u64>,
 }
 
-fn is_same(left: &[Step], right: &[Step]) -> bool
-    ensures { result ≡ same_address left.now right.now }
-{
-    match (left.split_first(), right.split_first()) {
-        (None, None) => true,
-        (Some((first, rest)), Some((other, more))) => {
-            is_same_step(first, other) && is_same(rest, more)
+impl<'a> Places<'a> {
+    pub fn new(alloc: Global, addresses: &'a [Address]) -> Result<Places<'a>, NoMemory>
+        ensures { IfOk result
+            (λ places. (a : List AStep) → place_in places a ≡ number_in addresses.now a) }
+    {
+        let mut order = BTreeMap::new(alloc);
+        // From the last on, so that the first of equal addresses is what stays.
+        for i in (0..addresses.len()).rev() {
+            order.insert(addresses[i].steps(), i as u64)?;
         }
-        _ => false,
+        Ok(Places { order })
     }
-}
 
-fn is_same_step(left: &Step, right: &Step) -> bool
-    ensures { result ≡ same_step left.now right.now }
-{
-    match (left, right) {
-        (Step::Name(k), Step::Name(l)) => k.as_str() == l.as_str(),
-        (Step::Place(i), Step::Place(j)) => *i == *j,
-        _ => false,
+    // The place of an address, and none where it is not among them.
+    pub fn place(&self, path: &[Step]) -> Option<u64>
+        ensures { result ≡ place_in self.now path.now }
+    {
+        self.order.get(path).copied()
     }
 }

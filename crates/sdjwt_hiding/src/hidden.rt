@@ -10,6 +10,7 @@ ghost use Rattle.sdjwt_hiding.specs.Disclosing.{by_sha256, all_told, IsReadBack}
 ghost use Rattle.sdjwt_hiding.specs.Issued.{all_made};
 ghost use Rattle.sdjwt_hiding.specs.code.InOrder.{told_in_order};
 
+use crate::addresses::Places;
 use crate::disclosure_text::IssuedDisclosure;
 use crate::error::NoMemory;
 use crate::walk::hide_value;
@@ -40,9 +41,10 @@ pub fn hide(alloc: Global, value: &Value, hide: &[Address]) -> Result<Hidden, No
         (λ _. AllByRecursion IsReadBack (met by_sha256 (number_in hide.now) (view value.now))) }
     ensures whole { IfOk result (λ h. has_float (view h.value) ≡ false) }
 {
+    let marked = Places::new(alloc, hide)?;
     let mut made = Vec::new(alloc);
     let mut path = Address::root(alloc);
-    let value = hide_value(alloc, hide, &mut path, value, &mut made)?;
+    let value = hide_value(alloc, &marked, &mut path, value, &mut made)?;
     let disclosures = by_number(made)?;
     Ok(Hidden { value, disclosures })
 }

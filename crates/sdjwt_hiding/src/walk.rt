@@ -12,7 +12,7 @@ ghost use Rattle.sdjwt_hiding.specs.Disclosing.{by_sha256, all_told, IsReadBack}
 ghost use Rattle.sdjwt_hiding.specs.Issued.{all_made};
 ghost use Rattle.sdjwt_hiding.specs.code.Walk.{marks_at, put_staying};
 
-use crate::addresses::number_of;
+use crate::addresses::Places;
 use crate::disclosure_text::{IssuedDisclosure, disclose};
 use crate::error::NoMemory;
 use claim_tree::{Address, Name, Step};
@@ -24,7 +24,7 @@ use std::alloc::Global;
 #[cycle(hide)]
 pub fn hide_value(
     alloc: Global,
-    marked: &[Address],
+    marked: &Places<'_>,
     path: &mut Address,
     value: &Value,
     made: &mut Vec<IssuedDisclosure>,
@@ -53,7 +53,7 @@ pub fn hide_value(
 #[tactic(auto, using(crate::proofs::Below::one_step, crate::proofs::Floats::hidden_whole))]
 fn hide_part(
     alloc: Global,
-    marked: &[Address],
+    marked: &Places<'_>,
     path: &mut Address,
     step: Step,
     value: &Value,
@@ -72,7 +72,7 @@ fn hide_part(
     ensures path { OnOk result (path.new ≡ path.old) }
 {
     path.push(step)?;
-    let number = number_of(marked, path.steps());
+    let number = marked.place(path.steps());
     let inner = hide_value(alloc, marked, path, value, made)?;
     path.pop();
     Ok((inner, number))
@@ -82,7 +82,7 @@ fn hide_part(
 #[tactic(auto, using(crate::proofs::WalkSteps::before_more, crate::proofs::WalkSteps::before_none))]
 fn hide_list(
     alloc: Global,
-    marked: &[Address],
+    marked: &Places<'_>,
     path: &mut Address,
     list: &Vec<Value>,
     made: &mut Vec<IssuedDisclosure>,
@@ -109,7 +109,7 @@ fn hide_list(
 #[cycle(hide)]
 fn hide_object(
     alloc: Global,
-    marked: &[Address],
+    marked: &Places<'_>,
     path: &mut Address,
     object: &Map<String, Value>,
     made: &mut Vec<IssuedDisclosure>,

@@ -64,3 +64,8 @@ pub record AreReadBack (s : Spec) (alg : SignAlg) : Type 0 where
 abbrev pub IssuedIsAsked : Type 0
 IssuedIsAsked = (s : Spec) (alg : SignAlg) (signature : List ℕ) → IsSdJwtSpec s → has_own_digests s ≡ true
     → AreReadBack s alg → IsBytes signature → ReadsAsAsked s alg signature
+
+-- With this signature each spec that may be asked reads so.
+abbrev pub AllReadAsAsked : List ℕ → Type 0
+AllReadAsAsked signature = (s : Spec) (alg : SignAlg) → IsSdJwtSpec s → has_own_digests s ≡ true
+    → AreReadBack s alg → ReadsAsAsked s alg signature

@@ -4,11 +4,12 @@ use Rattle.serde_json.specs.Data.{Data, Members as Fields, put}
 use Rattle.base_forms.specs.Texts.{Utf8}
 use Rattle.claim_names.specs.declared.address.Step.{Step}
 use Rattle.sdjwt_hiding.specs.Hiding.{Marks}
-use Rattle.sdjwt_hiding.specs.Addresses.{number_in}
+use Rattle.sdjwt_hiding.specs.code.Places.{place_in}
+use Rattle.sdjwt_hiding.specs.declared.addresses.Places.{Places}
 
 -- the marks of the part at an address, by addresses from there on
-abbrev pub marks_at : List (List Step) → List Step → Marks
-marks_at hide path = λ a. number_in hide (path ++ a)
+abbrev pub marks_at : Places → List Step → Marks
+marks_at places path = λ a. place_in places (path ++ a)
 
 -- the members with one more of this mark, where it stays
 abbrev pub put_staying : Option ℕ → Utf8 → Data → Fields → Fields
