@@ -12,3 +12,4 @@ pub use cbor_core::NoMemory;
 pub use element::{byte_string_bytes, element_bytes, number_bytes, text_bytes};
 pub use item::{embedded_bytes, item_bytes};
 pub use pairs::{named_map, sorted_map};
+pub use standing::{Standing, read_standing};

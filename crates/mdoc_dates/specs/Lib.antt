@@ -1,0 +1,3 @@
+pub mod Tdate
+pub mod Laws
+pub mod code

@@ -1,0 +1,2 @@
+-- What ties code to the definitions: the meaning of its own types.
+pub mod Dates

@@ -1,0 +1,13 @@
+mod Signing
+mod Placing
+mod Finding
+mod SortedMaps
+mod Digests
+mod Spaces
+mod Members
+mod ValueDigests
+mod Lists
+mod Dates
+mod Object
+mod Law
+mod Endings

@@ -1,0 +1,4 @@
+pub mod Counts
+pub mod Differing
+mod Memory
+mod Named

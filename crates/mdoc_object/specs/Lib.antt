@@ -1,0 +1,4 @@
+pub mod Namespaces
+pub mod ValueDigests
+pub mod SecurityObject
+pub mod code
