@@ -3,7 +3,7 @@ use Rattle.std.specs.Prelude.{ℕ}
 use Rattle.outside.specs.declared.status.Status.{Status}
 use Rattle.outside.specs.declared.status.Status.TheVariants.{Done, Usage, RequestRefused, NoOption, ReadFault}
 use Rattle.outside.specs.declared.status.Status.TheVariants.{WriteFault, DeviceFault, FileRefused, TooLong}
-use Rattle.outside.specs.declared.status.Status.TheVariants.{NoMemory, NotOne}
+use Rattle.outside.specs.declared.status.Status.TheVariants.{NoMemory, NotOne, KeyMissing, SpecRefused}
 
 abbrev pub code_of : Status → ℕ
 code_of Done = 0
@@ -17,3 +17,5 @@ code_of FileRefused = 12
 code_of TooLong = 14
 code_of NoMemory = 15
 code_of NotOne = 17
+code_of KeyMissing = 18
+code_of SpecRefused = 18

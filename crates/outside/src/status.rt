@@ -27,6 +27,10 @@ pub enum Status {
     NoMemory,
     /// The query has no credential query, or more than one.
     NotOne,
+    /// The device does not hold the key that is to sign.
+    KeyMissing,
+    /// The spec of a test credential breaks a rule.
+    SpecRefused,
 }
 
 impl Status {
@@ -46,6 +50,7 @@ impl Status {
             Status::TooLong => 14,
             Status::NoMemory => 15,
             Status::NotOne => 17,
+            Status::KeyMissing | Status::SpecRefused => 18,
         }
     }
 }

@@ -5,6 +5,10 @@ use Rattle.outside.specs.Store.{File, whole, longer}
 use Rattle.program_steps.specs.Outcome.{Outcome, too_long}
 use Rattle.runs.specs.Tree.{Tree, gives, stops, needs, file}
 
+-- how many bytes a file may have that is no credential
+abbrev pub file_limit : ℕ
+file_limit = 1048576
+
 -- a file's bytes, unless they are more than the limit
 abbrev pub fitting : List ℕ → File → Tree Outcome (List ℕ)
 fitting name (whole bytes) = gives bytes

@@ -3,7 +3,7 @@ use Rattle.std.specs.Prelude.{Bool, true, false}
 use Rattle.outside.specs.declared.status.Status.{Status}
 use Rattle.outside.specs.declared.status.Status.TheVariants.{Done, Usage, RequestRefused, NoOption, ReadFault}
 use Rattle.outside.specs.declared.status.Status.TheVariants.{WriteFault, DeviceFault, FileRefused, TooLong}
-use Rattle.outside.specs.declared.status.Status.TheVariants.{NoMemory, NotOne}
+use Rattle.outside.specs.declared.status.Status.TheVariants.{NoMemory, NotOne, KeyMissing, SpecRefused}
 
 abbrev pub is_own : Status → Bool
 is_own Done = true
@@ -17,3 +17,5 @@ is_own FileRefused = true
 is_own TooLong = true
 is_own NoMemory = false
 is_own NotOne = true
+is_own KeyMissing = true
+is_own SpecRefused = true

@@ -11,6 +11,9 @@ use outside::{Store, StoreError};
 use runs::Fault;
 use std::alloc::Global;
 
+/// How many bytes a file may have that is no credential.
+pub const FILE_LIMIT: usize = 1_048_576;
+
 /// The bytes of a file that has no more than `limit` of them.
 ///
 /// # Errors

@@ -15,7 +15,7 @@ mod replies;
 mod reply;
 mod stop;
 
-pub use files::{read_file, text_of};
+pub use files::{FILE_LIMIT, read_file, text_of};
 pub use laws::{
     asks_in_order, counts_stay, ends_complete, keys_stay, statuses_have_causes, usage_is_no_command,
 };

@@ -61,6 +61,8 @@ fn statuses(rt: HostRuntime) {
         (Status::TooLong, 14),
         (Status::NoMemory, 15),
         (Status::NotOne, 17),
+        (Status::KeyMissing, 18),
+        (Status::SpecRefused, 18),
     ] {
         assert!(rt; status.code() == code);
     }

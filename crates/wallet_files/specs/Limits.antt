@@ -1,9 +1,6 @@
 -- How much of a file is taken.
 use Rattle.std.specs.Prelude.{ℕ}
-
--- how many bytes a file may have that is no credential
-abbrev pub file_limit : ℕ
-file_limit = 1048576
+pub use Rattle.program_steps.specs.Files.{file_limit}
 
 -- how many bytes a credential file may have
 abbrev pub credential_limit : ℕ

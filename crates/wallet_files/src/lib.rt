@@ -13,8 +13,8 @@ mod wallet;
 
 pub use credential_file::read_credential;
 pub use finding::Finding;
-pub use limits::FILE_LIMIT;
 pub use line_stops::line_stop;
+pub use program_steps::FILE_LIMIT;
 pub use query_file::{only, query_by, query_refusal, read_query};
 pub use tree_lines::{add_match, matches_in};
 pub use wallet::{Entry, read_wallet};

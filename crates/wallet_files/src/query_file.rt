@@ -8,11 +8,10 @@ ghost use Rattle.runs.specs.World.{World};
 ghost use Rattle.serde_json.specs.View.{view};
 ghost use Rattle.wallet_files.specs.QueryFile.{read_query, only, query_refusal};
 
-use crate::limits::FILE_LIMIT;
 use dcql_query::{CredentialQuery, Error, Query};
 use json_forms::read_json;
 use outside::{Status, Store};
-use program_steps::{Reply, Stop, file_refused, query_refused, read_file, reply_of};
+use program_steps::{FILE_LIMIT, Reply, Stop, file_refused, query_refused, read_file, reply_of};
 use serde_json::Value;
 use std::alloc::{AllocError, Global};
 

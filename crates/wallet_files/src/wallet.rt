@@ -10,12 +10,11 @@ ghost use Rattle.wallet_files.specs.Wallet.{read_wallet};
 ghost use Rattle.base_forms.specs.Lines.{IsBadLine};
 ghost use Rattle.wallet_files.specs.code.Entries.{meant, meant_parts};
 
-use crate::limits::FILE_LIMIT;
 use crate::line_stops::line_stop;
 use base_forms::{LineError, cut_line};
 use claim_tree::Format;
 use outside::Store;
-use program_steps::{Stop, read_file, text_of};
+use program_steps::{FILE_LIMIT, Stop, read_file, text_of};
 use std::alloc::Global;
 
 const MOST_CREDENTIALS: u64 = 64;
