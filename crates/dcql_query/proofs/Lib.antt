@@ -1,3 +1,4 @@
 pub mod Readable
 pub mod WellFormed
 pub mod Known
+pub mod Enough

@@ -3,7 +3,10 @@ pub use Rattle.dcql_rules.specs.Rules
 pub use Rattle.dcql_rules.specs.AllBroken
 pub use Rattle.credential_query.specs.Credential
 pub use Rattle.credential_query.specs.Claims
+pub use Rattle.dcql_answers.specs.Answer
+pub use Rattle.dcql_answers.specs.Fits
 pub mod Query
+pub mod Satisfied
 pub mod WellFormed
 pub mod Meaning
 pub mod Refusal

@@ -1,5 +1,5 @@
 // What a query asks for.
-ghost use Rattle.std.specs.Prelude.{◌≡◌, ◌<◌, ◌≤◌, ◌^◌, length, slice_get, slice_index, Some};
+ghost use Rattle.std.specs.Prelude.{◌≡◌, ◌-◌, ◌<◌, ◌≤◌, ◌^◌, length, slice_get, slice_index, Some};
 ghost use Rattle.dcql_query.specs.Query.{query_from, sets_in, credential_set_at};
 ghost use Rattle.dcql_query.specs.WellFormed.{IsQuery};
 
@@ -52,6 +52,22 @@ impl Query {
         ensures well_formed { IsQuery self.now }
     {
         self.credentials.len()
+    }
+
+    /// The credential queries, in the order of the JSON text.
+    pub fn credentials(&self) -> &[CredentialQuery]
+        ensures value { result.now ≡ self.now.credentials }
+        ensures well_formed { IsQuery self.now }
+    {
+        self.credentials.as_slice()
+    }
+
+    /// The set of all credential queries, as the number whose bit i stands for credential query i.
+    pub fn all(&self) -> u16
+        ensures bits { result ≡ 2 ^ length self.now.credentials - 1 }
+        ensures well_formed { IsQuery self.now }
+    {
+        ((1u32 << self.len()) - 1) as u16
     }
 
     /// The credential query at place `i`, in the order of the JSON text. Its id is that of no other.

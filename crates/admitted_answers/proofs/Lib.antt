@@ -1,0 +1,11 @@
+pub mod Pairs
+pub mod OneQuery
+pub mod Spelled
+pub mod SameSet
+pub mod Ranks
+pub mod NextAnswer
+pub mod Made
+pub mod Followed
+pub mod Listed
+pub mod AllAnswers
+pub mod Tests

@@ -1,0 +1,5 @@
+use Rattle.std.proofs.Common.{length}
+use Rattle.admitted_answers.proofs.admitted.+is_list.Given as goal
+
+abbrev pub decreases-is_list : goal.decreases-is_list
+decreases-is_list l = length l.picks.now

@@ -1,0 +1,4 @@
+pub mod Admits
+pub mod Least
+pub mod Laws
+pub mod code

@@ -1,0 +1,9 @@
+//! Which credentials may be presented for a credential query (OpenID4VP 1.0, sections 6.1, 6.3 and 6.4.1).
+//!
+//! [`meets`] says whether a credential has what a claim set asks for, and [`meets_some`] whether it has what
+//! some claim set asks for.
+#![tactic(auto)]
+
+mod matching;
+
+pub use matching::{meets, meets_some};

@@ -1,0 +1,5 @@
+pub mod Lacks
+pub mod Lists
+pub mod Parts
+pub mod Writing
+pub mod Named
