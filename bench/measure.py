@@ -2,13 +2,49 @@
 
 import os
 import resource
+import shutil
 import statistics
 import subprocess
 import tempfile
 
 HERE = os.path.dirname(os.path.abspath(__file__))
-LAUNCHER = os.path.join(HERE, "..", "vpwallet")
-WALLET = os.path.join(HERE, "..", "crates", "vpwallet", "out", "vpwallet")
+REGISTRY = "/usr/share/cargo/registry"
+PACKAGES = ["librust-serde-json-dev", "librust-base64-dev", "librust-sha2-dev"]
+
+
+def launcher(name):
+    """The script that proves and builds a program where need be, and runs it."""
+    return os.path.join(HERE, "..", name)
+
+
+def program(name):
+    """The program itself, once it is built."""
+    return os.path.join(HERE, "..", "crates", name, "out", name)
+
+
+def plain(name):
+    """The plain Rust program of this name, once it is built."""
+    return os.path.join(HERE, name, "out", "release", name)
+
+
+def build_plain(name):
+    """Builds the plain Rust program of this name, or says why not."""
+    missing = [tool for tool in ("cargo", "time") if shutil.which(tool) is None]
+    if not os.path.isdir(REGISTRY):
+        missing += PACKAGES
+    if missing:
+        return "not installed: " + " ".join(missing)
+    done = subprocess.run(
+        ["cargo", "build", "--release", "--offline", "--quiet"],
+        cwd=os.path.join(HERE, name),
+        capture_output=True,
+        text=True,
+    )
+    return None if done.returncode == 0 else "%s is not built (it needs %s):\n%s" % (
+        name,
+        " ".join(PACKAGES),
+        done.stderr,
+    )
 
 
 def run(words):
@@ -32,8 +68,8 @@ def medians(words, runs):
     return outputs[0], statistics.median(seconds), statistics.median(peaks)
 
 
-def print_head(first, other):
-    print("%-20s %10s %10s %7s %10s %10s" % (first, "vpwallet", other, "ratio", "vpwallet", other))
+def print_head(first, ours, other):
+    print("%-20s %10s %10s %7s %10s %10s" % (first, ours, other, "ratio", ours, other))
 
 
 def print_row(name, ours, theirs):
