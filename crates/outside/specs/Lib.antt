@@ -1,4 +1,5 @@
 pub mod Calls
+pub mod Clock
 pub mod Faults
 pub mod Sink
 pub mod Status

@@ -11,6 +11,8 @@ pub enum Status {
     Usage,
     /// The request or the query breaks a rule.
     RequestRefused,
+    /// A token names no answer that is admitted.
+    NotAnOption,
     /// There is nothing to choose from.
     NoOption,
     /// A file could not be read.
@@ -19,6 +21,8 @@ pub enum Status {
     WriteFault,
     /// The device of keys failed.
     DeviceFault,
+    /// The clock failed.
+    ClockFault,
     /// A line of a file is not of the file's form.
     FileRefused,
     /// A file has more bytes than its limit.
@@ -42,10 +46,12 @@ impl Status {
             Status::Done => 0,
             Status::Usage => 2,
             Status::RequestRefused => 3,
+            Status::NotAnOption => 4,
             Status::NoOption => 5,
             Status::ReadFault => 6,
             Status::WriteFault => 7,
             Status::DeviceFault => 8,
+            Status::ClockFault => 9,
             Status::FileRefused => 12,
             Status::TooLong => 14,
             Status::NoMemory => 15,

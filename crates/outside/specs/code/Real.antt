@@ -10,6 +10,8 @@ use Rattle.outside.specs.declared.error.StoreError.{StoreError}
 use Rattle.outside.specs.declared.error.StoreError.TheVariants.{Failed, TooLong, NoMemory}
 use Rattle.outside.specs.declared.real.FileStore.{FileStore}
 use Rattle.outside.specs.declared.real.OutSink.{OutSink}
+use Rattle.outside.specs.declared.real.SystemClock.{SystemClock}
+use Rattle.outside.specs.Clock.{ClockState}
 use Rattle.outside.specs.Faults.{next}
 use Rattle.outside.specs.Sink.{SinkState}
 use Rattle.outside.specs.Store.{StoreState}
@@ -29,6 +31,14 @@ out_faults_of sink = sink.faults
 -- It tells nothing.
 abbrev pub out_state : {R : Type 0} → OutSink R → SinkState
 out_state sink = record { written = None; empty_pieces = None; faults = out_faults_of sink }
+
+-- how often the clock failed, up to 2^64 - 1
+abbrev pub clock_faults_of : {R : Type 0} → SystemClock R → ℕ
+clock_faults_of clock = clock.faults
+
+-- It tells nothing.
+abbrev pub clock_state : {R : Type 0} → SystemClock R → ClockState
+clock_state clock = record { moments = None; faults = clock_faults_of clock }
 
 -- these bytes, unless they are more than the limit
 abbrev pub within : ℕ → List ℕ → Option (List ℕ)
@@ -52,7 +62,7 @@ faults_after_read faults (Err Failed) = next faults
 faults_after_read faults (Err TooLong) = faults
 faults_after_read faults (Err NoMemory) = faults
 
--- the count of faults after a write
+-- the count of faults after a write, or a look at the clock
 abbrev pub faults_after : {T E : Type 0} → ℕ → Result T E → ℕ
 faults_after faults (Ok value) = faults
 faults_after faults (Err error) = next faults
