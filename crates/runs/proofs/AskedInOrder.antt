@@ -5,10 +5,10 @@ use Rattle.outside.specs.Calls.{Given, gave, failed, exhausted, Grows}
 use Rattle.outside.specs.Sink.{written}
 use Rattle.outside.specs.Store.{FileRead, Reads, file_read}
 use Rattle.key_device.specs.Calls.{Grew}
-use Rattle.runs.specs.Asked.{Answered, answered, Goes, reads_in, Writes}
+use Rattle.runs.specs.Asked.{Answered, answered, Goes, reads_in, moment_of, moments_in, Writes}
 use Rattle.runs.specs.Runs.{Runs}
 use Rattle.runs.specs.Signed.{signatures, AreGenuine, calls}
-use Rattle.runs.specs.Tree.{Question, file, judge, sign, write, Answer, gives, stops, needs, tries}
+use Rattle.runs.specs.Tree.{Question, file, judge, sign, time, write, Answer, gives, stops, needs, tries}
 use Rattle.runs.specs.Went.{AsksInOrder}
 use Rattle.runs.specs.World.{World, Took, got}
 use Rattle.runs.proofs.Signing.{held_stays, judged_only_adds, grew_none, calls_step, calls_left, genuine_step}
@@ -45,6 +45,8 @@ reads_step (judge name alg message signature) answer log before mid after (new, 
     rest ∙ ap (λ (w : World). option_map (λ told. told ++ reads_in log) w.store.reads) is
 reads_step (sign name message) answer log before mid after (new, is, asked) rest =
     rest ∙ ap (λ (w : World). option_map (λ told. told ++ reads_in log) w.store.reads) is
+reads_step time answer log before mid after (new, is, told) rest =
+    rest ∙ ap (λ (w : World). option_map (λ told. told ++ reads_in log) w.store.reads) is
 reads_step (write text) answer log before mid after (new, is, taken) rest =
     rest ∙ ap (λ (w : World). option_map (λ told. told ++ reads_in log) w.store.reads) is
 
@@ -60,6 +62,8 @@ writes_step (judge name alg message signature) answer log before mid after (new,
     subst (λ (w : World). Writes log w.sink.written after.sink.written) is rest
 writes_step (sign name message) answer log before mid after (new, is, asked) rest =
     subst (λ (w : World). Writes log w.sink.written after.sink.written) is rest
+writes_step time answer log before mid after (new, is, told) rest =
+    subst (λ (w : World). Writes log w.sink.written after.sink.written) is rest
 writes_step (write text) (Some written) log before mid after (new, is, taken) rest =
     subst (λ (t : Option (List ℕ)). Writes log t after.sink.written) (ap (λ (w : World). w.sink.written) is
     ∙ taken.taken) rest
@@ -70,6 +74,46 @@ writes_step (write text) None log before mid after (new, is, taken) rest = (
       ∙ taken.taken.2) rest,
 )
 
+-- ---- moments
+
+moments_none : (old new : Option (List ℕ)) → new ≡ old → old ≡ option_map (λ later. [] ++ later) new
+moments_none None None same = refl
+moments_none None (Some later) same = absurd (cc)
+moments_none (Some told) None same = absurd (cc)
+moments_none (Some told) (Some later) same = sym same
+
+moments_then : (old mid new : Option (List ℕ)) (first second : List ℕ)
+    → old ≡ option_map (λ later. first ++ later) mid → mid ≡ option_map (λ later. second ++ later) new
+    → old ≡ option_map (λ later. (first ++ second) ++ later) new
+moments_then old mid None first second one two =
+    one ∙ ap (option_map (λ (later : List ℕ). first ++ later)) two
+moments_then old mid (Some told) first second one two =
+    one ∙ ap (option_map (λ (later : List ℕ). first ++ later)) two
+    ∙ ap (λ (l : List ℕ). Some l) (sym (append_assoc first second told))
+
+took_moments : (q : Question) (before mid : World) (answer : Option (Answer q)) → Took q before mid (got answer)
+    → before.clock.moments ≡ option_map (λ later. moment_of q answer ++ later) mid.clock.moments
+took_moments (file name limit) before mid answer (new, is, read) =
+    moments_none _ _ (ap (λ (w : World). w.clock.moments) is)
+took_moments (judge name alg message signature) before mid answer (new, is, asked) =
+    moments_none _ _ (ap (λ (w : World). w.clock.moments) is)
+took_moments (sign name message) before mid answer (new, is, asked) =
+    moments_none _ _ (ap (λ (w : World). w.clock.moments) is)
+took_moments time before mid (Some moment) (new, is, told) =
+    told.first ∙ ap (λ (w : World). option_map (λ later. moment ∷ later) w.clock.moments) (sym is)
+took_moments time before mid None (new, is, told) =
+    moments_none _ _ (ap (λ (w : World). w.clock.moments) is ∙ told.first)
+took_moments (write text) before mid answer (new, is, taken) =
+    moments_none _ _ (ap (λ (w : World). w.clock.moments) is)
+
+moments_step : (q : Question) (answer : Option (Answer q)) (log : List Answered) (before mid after : World)
+    → Took q before mid (got answer)
+    → mid.clock.moments ≡ option_map (λ later. moments_in log ++ later) after.clock.moments
+    → before.clock.moments
+    ≡ option_map (λ later. moments_in (answered q answer ∷ log) ++ later) after.clock.moments
+moments_step q answer log before mid after took rest =
+    moments_then _ _ _ (moment_of q answer) (moments_in log) (took_moments q before mid answer took) rest
+
 -- ---- what never changes
 
 same_pieces : (q : Question) (before mid : World) (answer : Given (Answer q)) → Took q before mid answer
@@ -79,6 +123,7 @@ same_pieces (judge name alg message signature) before mid answer (new, is, asked
     ap (λ (w : World). w.sink.empty_pieces) is
 same_pieces (sign name message) before mid answer (new, is, asked) =
     ap (λ (w : World). w.sink.empty_pieces) is
+same_pieces time before mid answer (new, is, told) = ap (λ (w : World). w.sink.empty_pieces) is
 same_pieces (write text) before mid answer (new, is, taken) = ap (λ (w : World). w.sink.empty_pieces) is
     ∙ taken.pieces
 
@@ -90,6 +135,7 @@ same_files (judge name alg message signature) before mid answer (new, is, asked)
     ap (λ (w : World). w.store.files) is
 same_files (sign name message) before mid answer (new, is, asked) =
     ap (λ (w : World). w.store.files) is
+same_files time before mid answer (new, is, told) = ap (λ (w : World). w.store.files) is
 same_files (write text) before mid answer (new, is, taken) = ap (λ (w : World). w.store.files) is
 
 -- ---- memory ran out in a call
@@ -100,34 +146,37 @@ record Left (q : Question) (before after : World) : Type 0 where
   reads : after.store.reads ≡ option_map (λ told. told ++ reads_in log) before.store.reads
   writes : Writes log before.sink.written after.sink.written
   asked : Grew before.device.calls after.device.calls (calls log)
+  moments : before.clock.moments ≡ option_map (λ later. moments_in log ++ later) after.clock.moments
   genuine : AreGenuine after.device.held after.device.judged (signatures log)
 
 left_at : (name : List ℕ) (limit : ℕ) (before after : World) → after.sink.written ≡ before.sink.written
-    → after.device.calls ≡ before.device.calls
+    → after.device.calls ≡ before.device.calls → after.clock.moments ≡ before.clock.moments
     → (after.store.reads ≡ before.store.reads)
     ⊎ (after.store.reads ≡ option_map (λ told. told ++ file_read name limit ∷ []) before.store.reads)
     → Left (file name limit) before after
-left_at name limit before after same device (inl kept) = record {
+left_at name limit before after same device clock (inl kept) = record {
   log = [];
   is_last = inl refl;
   reads = reads_none before.store.reads after.store.reads kept;
   writes = same;
   asked = grew_none _ _ device;
+  moments = moments_none _ _ clock;
   genuine = tt;
 }
-left_at name limit before after same device (inr grew) = record {
+left_at name limit before after same device clock (inr grew) = record {
   log = answered (file name limit) None ∷ [];
   is_last = inr refl;
   reads = grew;
   writes = same;
   asked = grew_none _ _ device;
+  moments = moments_none _ _ clock;
   genuine = tt;
 }
 
 left : (q : Question) (before after : World) → Took q before after exhausted → Left q before after
 left (file name limit) before after (new, is, read) =
     left_at name limit before after (ap (λ (w : World). w.sink.written) is)
-    (ap (λ (w : World). w.device.calls) is)
+    (ap (λ (w : World). w.device.calls) is) (ap (λ (w : World). w.clock.moments) is)
     (subst (λ (w : World). (w.store.reads ≡ before.store.reads)
     ⊎ (w.store.reads ≡ option_map (λ told. told ++ file_read name limit ∷ []) before.store.reads))
     (sym is) read.recorded)
@@ -137,6 +186,7 @@ left (judge name alg message signature) before after (new, is, asked) = record {
   reads = reads_none before.store.reads after.store.reads (ap (λ (w : World). w.store.reads) is);
   writes = ap (λ (w : World). w.sink.written) is;
   asked = calls_left (judge name alg message signature) before after (new, is, asked);
+  moments = moments_none _ _ (ap (λ (w : World). w.clock.moments) is);
   genuine = genuine_none (judge name alg message signature) after.device.held after.device.judged;
 }
 left (sign name message) before after (new, is, asked) = record {
@@ -145,7 +195,17 @@ left (sign name message) before after (new, is, asked) = record {
   reads = reads_none before.store.reads after.store.reads (ap (λ (w : World). w.store.reads) is);
   writes = ap (λ (w : World). w.sink.written) is;
   asked = calls_left (sign name message) before after (new, is, asked);
+  moments = moments_none _ _ (ap (λ (w : World). w.clock.moments) is);
   genuine = genuine_none (sign name message) after.device.held after.device.judged;
+}
+left time before after (new, is, told) = record {
+  log = [];
+  is_last = inl refl;
+  reads = reads_none before.store.reads after.store.reads (ap (λ (w : World). w.store.reads) is);
+  writes = ap (λ (w : World). w.sink.written) is;
+  asked = grew_none _ _ (ap (λ (w : World). w.device.calls) is);
+  moments = moments_none _ _ (ap (λ (w : World). w.clock.moments) is ∙ told.first);
+  genuine = tt;
 }
 left (write text) before after (new, is, taken) = record {
   log = [];
@@ -153,6 +213,7 @@ left (write text) before after (new, is, taken) = record {
   reads = reads_none before.store.reads after.store.reads (ap (λ (w : World). w.store.reads) is);
   writes = ap (λ (w : World). w.sink.written) is ∙ taken.taken;
   asked = grew_none _ _ (ap (λ (w : World). w.device.calls) is);
+  moments = moments_none _ _ (ap (λ (w : World). w.clock.moments) is);
   genuine = tt;
 }
 
@@ -168,6 +229,7 @@ asks_in_order (gives v) before after end run = record {
   pieces = ap (λ (w : World). w.sink.empty_pieces) run.0;
   files = ap (λ (w : World). w.store.files) run.0;
   calls = grew_none _ _ (ap (λ (w : World). w.device.calls) run.0);
+  moments = moments_none _ _ (ap (λ (w : World). w.clock.moments) run.0);
   genuine = tt;
 }
 asks_in_order (stops refusal) before after end run = record {
@@ -178,6 +240,7 @@ asks_in_order (stops refusal) before after end run = record {
   pieces = ap (λ (w : World). w.sink.empty_pieces) run.0;
   files = ap (λ (w : World). w.store.files) run.0;
   calls = grew_none _ _ (ap (λ (w : World). w.device.calls) run.0);
+  moments = moments_none _ _ (ap (λ (w : World). w.clock.moments) run.0);
   genuine = tt;
 }
 asks_in_order (needs q next) before after end (inl (answer, mid, took, rest)) =
@@ -190,6 +253,7 @@ asks_in_order (needs q next) before after end (inl (answer, mid, took, rest)) =
       pieces = went.pieces ∙ same_pieces q before mid (gave answer) took;
       files = went.files ∙ same_files q before mid (gave answer) took;
       calls = calls_step q (Some answer) went.log before mid after took went.calls;
+      moments = moments_step q (Some answer) went.log before mid after took went.moments;
       genuine = genuine_step q (Some answer) went.log before mid after took
           (held_stays (next answer) mid after end rest) (judged_only_adds (next answer) mid after end rest)
           went.genuine;
@@ -202,6 +266,7 @@ asks_in_order (needs q next) before after end (inr (inl faulted)) = record {
   pieces = same_pieces q before after failed faulted.0;
   files = same_files q before after failed faulted.0;
   calls = calls_step q None [] before after after faulted.0 (grew_none _ _ refl);
+  moments = moments_step q None [] before after after faulted.0 (moments_none _ _ refl);
   genuine = genuine_none q after.device.held after.device.judged;
 }
 asks_in_order (needs q next) before after end (inr (inr (inl same, gives_up))) = record {
@@ -212,6 +277,7 @@ asks_in_order (needs q next) before after end (inr (inr (inl same, gives_up))) =
   pieces = ap (λ (w : World). w.sink.empty_pieces) same;
   files = ap (λ (w : World). w.store.files) same;
   calls = grew_none _ _ (ap (λ (w : World). w.device.calls) same);
+  moments = moments_none _ _ (ap (λ (w : World). w.clock.moments) same);
   genuine = tt;
 }
 asks_in_order (needs q next) before after end (inr (inr (inr took, gives_up))) =
@@ -224,6 +290,7 @@ asks_in_order (needs q next) before after end (inr (inr (inr took, gives_up))) =
       pieces = same_pieces q before after exhausted took;
       files = same_files q before after exhausted took;
       calls = last.asked;
+      moments = last.moments;
       genuine = last.genuine;
     }
 asks_in_order (tries q next) before after end (inl (answer, mid, took, rest)) =
@@ -236,6 +303,7 @@ asks_in_order (tries q next) before after end (inl (answer, mid, took, rest)) =
       pieces = went.pieces ∙ same_pieces q before mid (got answer) took;
       files = went.files ∙ same_files q before mid (got answer) took;
       calls = calls_step q answer went.log before mid after took went.calls;
+      moments = moments_step q answer went.log before mid after took went.moments;
       genuine = genuine_step q answer went.log before mid after took
           (held_stays (next answer) mid after end rest) (judged_only_adds (next answer) mid after end rest)
           went.genuine;
@@ -248,6 +316,7 @@ asks_in_order (tries q next) before after end (inr (inl same, gives_up)) = recor
   pieces = ap (λ (w : World). w.sink.empty_pieces) same;
   files = ap (λ (w : World). w.store.files) same;
   calls = grew_none _ _ (ap (λ (w : World). w.device.calls) same);
+  moments = moments_none _ _ (ap (λ (w : World). w.clock.moments) same);
   genuine = tt;
 }
 asks_in_order (tries q next) before after end (inr (inr took, gives_up)) =
@@ -260,5 +329,6 @@ asks_in_order (tries q next) before after end (inr (inr took, gives_up)) =
       pieces = same_pieces q before after exhausted took;
       files = same_files q before after exhausted took;
       calls = last.asked;
+      moments = last.moments;
       genuine = last.genuine;
     }

@@ -6,7 +6,7 @@ use Rattle.outside.specs.Faults.{Rose}
 use Rattle.runs.specs.Counts.{Counts, counts, RoseBy, MayAsk, Cause, FaultsHaveCauses, Later, CountsNeverFall}
 use Rattle.runs.specs.Counts.{Insists, IsNoFault, CountsStay}
 use Rattle.runs.specs.Runs.{Ending, value, refused, fault, out_of_memory, Faults, Runs}
-use Rattle.runs.specs.Tree.{Question, file, judge, sign, write, Answer, Tree, gives, stops, needs, tries}
+use Rattle.runs.specs.Tree.{Question, file, judge, sign, time, write, Answer, Tree, gives, stops, needs, tries}
 use Rattle.runs.specs.World.{World, fault_of, Took, got}
 use Rattle.runs.specs.declared.fault.Fault.{Fault}
 
@@ -20,6 +20,8 @@ gave_counts (judge name alg message signature) before mid answer (new, is, judge
     ∙ ap (λ (n : ℕ). record (counts before) { device = n }) judged.counts
 gave_counts (sign name message) before mid answer (new, is, signed) = ap counts is
     ∙ ap (λ (n : ℕ). record (counts before) { device = n }) signed.counts
+gave_counts time before mid answer (new, is, told) = ap counts is
+    ∙ ap (λ (n : ℕ). record (counts before) { clock = n }) told.counts
 gave_counts (write text) before mid answer (new, is, taken) = ap counts is
     ∙ ap (λ (n : ℕ). record (counts before) { sink = n }) taken.counts
 
@@ -31,6 +33,8 @@ exhausted_counts (judge name alg message signature) before mid (new, is, judged)
     ∙ ap (λ (n : ℕ). record (counts before) { device = n }) judged.counts
 exhausted_counts (sign name message) before mid (new, is, signed) = ap counts is
     ∙ ap (λ (n : ℕ). record (counts before) { device = n }) signed.counts
+exhausted_counts time before mid (new, is, told) = ap counts is
+    ∙ ap (λ (n : ℕ). record (counts before) { clock = n }) told.counts
 exhausted_counts (write text) before mid (new, is, taken) = ap counts is
     ∙ ap (λ (n : ℕ). record (counts before) { sink = n }) taken.counts
 
@@ -42,6 +46,8 @@ failed_counts (judge name alg message signature) before mid (new, is, judged) =
     subst (λ (w : World). Rose before.device.faults w.device.faults) (sym is) judged.counts.0
 failed_counts (sign name message) before mid (new, is, signed) =
     subst (λ (w : World). Rose before.device.faults w.device.faults) (sym is) signed.counts.0
+failed_counts time before mid (new, is, told) =
+    subst (λ (w : World). Rose before.clock.faults w.clock.faults) (sym is) told.counts.0
 failed_counts (write text) before mid (new, is, taken) =
     subst (λ (w : World). Rose before.sink.faults w.sink.faults) (sym is) taken.counts.0
 
@@ -49,28 +55,50 @@ failed_counts (write text) before mid (new, is, taken) =
 
 same_later : (before after : Counts) → after ≡ before → Later before after
 same_later before after same =
-    rw same (record { store = λ name. omega arith; device = omega arith; sink = omega arith })
+    rw same (record {
+      store = λ name. omega arith;
+      device = omega arith;
+      clock = omega arith;
+      sink = omega arith;
+    })
 
 later_later : (before mid after : Counts) → Later before mid → Later mid after → Later before after
 later_later before mid after one two = record {
   store = λ name. omega (arith, one.store name, two.store name);
   device = omega (arith, one.device, two.device);
+  clock = omega (arith, one.clock, two.clock);
   sink = omega (arith, one.sink, two.sink);
 }
 
 failed_later : (q : Question) (before mid : World) → Took q before mid failed
     → Later (counts before) (counts mid)
 failed_later (file name limit) before mid (new, is, read) =
-    rw is (record { store = read.counts.1; device = omega arith; sink = omega arith })
+    rw is (record { store = read.counts.1; device = omega arith; clock = omega arith; sink = omega arith })
 failed_later (judge name alg message signature) before mid (new, is, judged) =
-    rw is (record { store = λ name. omega arith; device = judged.counts.1; sink = omega arith })
+    rw is (record {
+      store = λ name. omega arith;
+      device = judged.counts.1;
+      clock = omega arith;
+      sink = omega arith;
+    })
 failed_later (sign name message) before mid (new, is, signed) =
-    rw is (record { store = λ name. omega arith; device = signed.counts.1; sink = omega arith })
+    rw is (record {
+      store = λ name. omega arith;
+      device = signed.counts.1;
+      clock = omega arith;
+      sink = omega arith;
+    })
+failed_later time before mid (new, is, told) = rw is (record {
+  store = λ name. omega arith;
+  device = omega arith;
+  clock = told.counts.1;
+  sink = omega arith;
+})
 failed_later (write text) before mid (new, is, taken) = rw is (record {
   store = λ name. omega arith;
   device = omega arith;
-  sink =
-      taken.counts.1;
+  clock = omega arith;
+  sink = taken.counts.1;
 })
 
 got_later : (q : Question) (before mid : World) (answer : Option (Answer q)) → Took q before mid (got answer)
@@ -102,6 +130,7 @@ pub rose_on : (q : Question) (before mid after : Counts) → RoseBy q before mid
 rose_on (file name limit) before mid after rose later = omega (arith, later.store name)
 rose_on (judge name alg message signature) before mid after rose later = omega (arith, later.device)
 rose_on (sign name message) before mid after rose later = omega (arith, later.device)
+rose_on time before mid after rose later = omega (arith, later.clock)
 rose_on (write text) before mid after rose later = omega (arith, later.sink)
 
 pub rose_since : (q : Question) (before mid after : Counts) → Later before mid → RoseBy q mid after
@@ -109,6 +138,7 @@ pub rose_since : (q : Question) (before mid after : Counts) → Later before mid
 rose_since (file name limit) before mid after later rose = omega (arith, later.store name)
 rose_since (judge name alg message signature) before mid after later rose = omega (arith, later.device)
 rose_since (sign name message) before mid after later rose = omega (arith, later.device)
+rose_since time before mid after later rose = omega (arith, later.clock)
 rose_since (write text) before mid after later rose = omega (arith, later.sink)
 
 -- ---- causes

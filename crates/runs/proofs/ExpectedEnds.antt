@@ -1,17 +1,18 @@
 -- A run in which no object fails ends as the objects determine.
 use Rattle.std.proofs.Common.{◌≡◌, ◌<◌, ◌≤◌, ◌++◌, ◌∙◌, inl, inr, ℕ, List, [], ◌∷◌, length, nat_lt, Bool}
 use Rattle.std.proofs.Common.{true, false, Option, None, Some, cond, refl, sym, ap, subst, option_map, arith}
-use Rattle.std.specs.Prelude.{IfSome, IsSomeAnd, ◌≢◌, ◌⊎◌, ⊤}
+use Rattle.std.specs.Prelude.{IfSome, IsSomeAnd, ◌≢◌, ◌⊎◌, ⊤, drop, is_some, option_and_then, slice_get}
 use borrow.Author.Tests.{ltb-true, ltb-false}
 use Rattle.outside.specs.Calls.{gave}
+use Rattle.outside.specs.Clock.{TakesFirst}
 use Rattle.outside.specs.Sink.{Written, written, TakesAll}
 use Rattle.outside.specs.Store.{Reads, file_read, File, whole, longer, Fits, IsWithin}
 use Rattle.key_device.specs.Calls.{Judges}
 use Rattle.runs.specs.Counts.{Counts, counts, RoseBy, Insists}
 use Rattle.runs.specs.Expected.{Sources, Tells, fitting, answer_of, after, Expected, expected_by, expected}
-use Rattle.runs.specs.Expected.{NoneRose, EndsAsExpected, AsksToSign, EndsAsTold}
+use Rattle.runs.specs.Expected.{NoneRose, EndsAsExpected, clock_tells, IsUntold, AsksUntold, EndsAsTold}
 use Rattle.runs.specs.Runs.{Ending, value, refused, fault, out_of_memory, HandsOn, Refuses, GivesUp, Runs}
-use Rattle.runs.specs.Tree.{Question, file, judge, sign, write, Answer, gives, stops, needs, tries}
+use Rattle.runs.specs.Tree.{Question, file, judge, sign, time, write, Answer, gives, stops, needs, tries}
 use Rattle.runs.specs.World.{World, fault_of, Took}
 use Rattle.runs.proofs.CountLaws.{gave_counts, failed_counts, counts_never_fall, rose_on, no_fault_is}
 
@@ -51,18 +52,26 @@ with_that : {A : Type 0} (P : A → Type 0) (T : Type 0) (o : Option A) → IsSo
 with_that P T None p t = absurd p
 with_that P T (Some a) p t = (p, t)
 
--- a signature is asked for
-abbrev Signs : Question → Type 0
-Signs (file name limit) = ⊥
-Signs (judge name alg message signature) = ⊥
-Signs (sign name message) = ⊤
-Signs (write text) = ⊥
+-- the moment that a clock gives is the first that it tells
+moment_is : (old new : Option (List ℕ)) (moment : ℕ) (T : Type 0) → TakesFirst old new (gave moment)
+    → (new ≡ option_map (drop 1) old → T)
+    → IsSomeAnd (option_and_then (λ moments. slice_get moments 0) old) (λ a. (moment ≡ a) × T)
+    ⊎ ((is_some old ≡ false)
+    × (option_and_then (λ (moments : List ℕ). slice_get moments 0) old ≡ None))
+moment_is None new moment T first on = inr (refl, refl)
+moment_is (Some told) None moment T first on = absurd (cc)
+moment_is (Some []) (Some later) moment T first on = absurd (cc)
+moment_is (Some (x ∷ told)) (Some later) moment T first on =
+    let same : x ∷ told ≡ moment ∷ later = cc in
+    let one : x ≡ moment = cc in
+    let rest : told ≡ later = cc in
+    inl (sym one, on (ap (λ (l : List ℕ). Some l) (sym rest)))
 
--- what was answered is what the objects determine, and they tell on, unless it is a signature
+-- what was answered is what the objects determine, and they tell on, unless they do not tell it
 told : (q : Question) (before mid : World) (sources : Sources) (answer : Answer q) → Tells before sources
     → Took q before mid (gave answer)
     → IsSomeAnd (answer_of q sources) (λ a. (answer ≡ a) × Tells mid (after q sources))
-    ⊎ (Signs q × (answer_of q sources ≡ None))
+    ⊎ (IsUntold (clock_tells sources) q × (answer_of q sources ≡ None))
 told (file name limit) before mid sources answer tells (new, is, read) =
     inl (with_that _ (Tells mid (after (file name limit) sources)) _
     (file_is limit (sources.files name) answer (rw tells.files at read.file) read.within) (rw is (record {
@@ -70,6 +79,7 @@ told (file name limit) before mid sources answer tells (new, is, read) =
       reads = read.recorded ∙ ap (option_map (λ (r : Reads). r ++ file_read name limit ∷ [])) tells.reads;
       written = tells.written;
       judged = tells.judged;
+      moments = tells.moments;
     })))
 told (judge name alg message signature) before mid sources answer tells (new, is, judged) = inl (
   judged.verdict ∙ ap (λ (f : Judges). f name alg message signature) tells.judged,
@@ -78,9 +88,20 @@ told (judge name alg message signature) before mid sources answer tells (new, is
     reads = tells.reads;
     written = tells.written;
     judged = judged.judged ∙ tells.judged;
+    moments = tells.moments;
   }),
 )
 told (sign name message) before mid sources answer tells took = inr (tt, refl)
+told time before mid sources answer tells (new, is, given) =
+    moment_is sources.moments new.moments answer (Tells mid (after time sources))
+    (sym tells.moments ∙ given.first)
+    (λ left. rw is (record {
+      files = tells.files;
+      reads = tells.reads;
+      written = tells.written;
+      judged = tells.judged;
+      moments = left;
+    }))
 told (write text) before mid sources all tells (new, is, taken) = inl (
   written_is all,
   rw is (record {
@@ -89,6 +110,7 @@ told (write text) before mid sources all tells (new, is, taken) = inl (
     written = all_taken text before.sink.written new.written all taken.taken
         ∙ ap (option_map (λ (t : List ℕ). t ++ text)) tells.written;
     judged = tells.judged;
+    moments = tells.moments;
   }),
 )
 
@@ -119,7 +141,7 @@ EndsBy before after later end e = NoneRose before after e.asked → IfSome e.end
 
 by_answer : {R A X : Type 0} (before after : Counts) (later : World) (end : Ending R A) (q : Question)
     (sources : Sources) (o : Option X) (answer : X) (T : Type 0) (rest : X → Expected R A)
-    → IsSomeAnd o (λ a. (answer ≡ a) × T) ⊎ (Signs q × (o ≡ None))
+    → IsSomeAnd o (λ a. (answer ≡ a) × T) ⊎ (IsUntold (clock_tells sources) q × (o ≡ None))
     → (T → EndsBy before after later end (rest answer))
     → EndsBy before after later end (expected_by q sources o rest)
 by_answer before after later end q sources None answer T rest is by_rest = λ none. tt
@@ -176,36 +198,39 @@ ends_as_expected (tries q next) before later sources end (inr given_up) tells no
 
 -- ---- whatever the counts are
 
--- the end is the expected one, or a signature was asked for
-abbrev TellsEnd : {R A : Type 0} → World → Ending R A → Expected R A → Type 0
-TellsEnd later end e = IsSomeAnd e.end (λ wanted. (end ≡ wanted) × Tells later e.told) ⊎ AsksToSign e.asked
+-- the end is the expected one, or something was asked for that is not told
+abbrev TellsEnd : {R A : Type 0} → Bool → World → Ending R A → Expected R A → Type 0
+TellsEnd tells later end e =
+    IsSomeAnd e.end (λ wanted. (end ≡ wanted) × Tells later e.told) ⊎ AsksUntold tells e.asked
 
-signs_first : (q : Question) (questions : List Question) → Signs q → AsksToSign (q ∷ questions)
-signs_first (file name limit) questions signs = absurd signs
-signs_first (judge name alg message signature) questions signs = absurd signs
-signs_first (sign name message) questions signs = tt
-signs_first (write text) questions signs = absurd signs
-
-signs_later : (q : Question) (questions : List Question) → AsksToSign questions → AsksToSign (q ∷ questions)
-signs_later (file name limit) questions asks = asks
-signs_later (judge name alg message signature) questions asks = asks
-signs_later (sign name message) questions asks = tt
-signs_later (write text) questions asks = asks
-
-told_on : {R A : Type 0} (later : World) (end : Ending R A) (q : Question) (e : Expected R A)
-    → TellsEnd later end e → TellsEnd later end (record e { asked = q ∷ e.asked })
-told_on later end q e (inl tells) = inl tells
-told_on later end q e (inr asks) = inr (signs_later q e.asked asks)
+told_on : {R A : Type 0} (tells : Bool) (later : World) (end : Ending R A) (q : Question) (e : Expected R A)
+    → TellsEnd tells later end e → TellsEnd tells later end (record e { asked = q ∷ e.asked })
+told_on tells later end q e (inl is) = inl is
+told_on tells later end q e (inr asks) = inr (inr asks)
 
 by_told : {R A X : Type 0} (later : World) (end : Ending R A) (q : Question) (sources : Sources)
     (o : Option X) (answer : X) (T : Type 0) (rest : X → Expected R A)
-    → IsSomeAnd o (λ a. (answer ≡ a) × T) ⊎ (Signs q × (o ≡ None)) → (T → TellsEnd later end (rest answer))
-    → TellsEnd later end (expected_by q sources o rest)
+    → IsSomeAnd o (λ a. (answer ≡ a) × T) ⊎ (IsUntold (clock_tells sources) q × (o ≡ None))
+    → (T → TellsEnd (clock_tells sources) later end (rest answer))
+    → TellsEnd (clock_tells sources) later end (expected_by q sources o rest)
 by_told later end q sources None answer T rest (inl is) by_rest = absurd is
-by_told later end q sources None answer T rest (inr is) by_rest = inr (signs_first q [] is.0)
+by_told later end q sources None answer T rest (inr is) by_rest = inr (inl is.0)
 by_told later end q sources (Some a) answer T rest (inl is) by_rest =
-    told_on later end q (rest a) (subst (λ (x : _). TellsEnd later end (rest x)) is.0 (by_rest is.1))
+    told_on (clock_tells sources) later end q (rest a)
+    (subst (λ (x : _). TellsEnd (clock_tells sources) later end (rest x)) is.0 (by_rest is.1))
 by_told later end q sources (Some a) answer T rest (inr is) by_rest = absurd (cc is.1)
+
+still_some : (moments : Option (List ℕ)) → is_some (option_map (drop 1) moments) ≡ is_some moments
+still_some None = refl
+still_some (Some told) = refl
+
+-- a clock that tells its moments still does, and one that does not does not
+pub tells_on : (q : Question) (sources : Sources) → clock_tells (after q sources) ≡ clock_tells sources
+tells_on (file name limit) sources = refl
+tells_on (judge name alg message signature) sources = refl
+tells_on (sign name message) sources = refl
+tells_on time sources = still_some sources.moments
+tells_on (write text) sources = refl
 
 pub ends_as_told : {R A : Type 0} → EndsAsTold R A
 unfolding Runs Insists
@@ -217,7 +242,9 @@ ends_as_told (needs q next) before later sources end insists
     (inl (answer, mid, took, rest)) tells none memory =
     by_told later end q sources (answer_of q sources) answer (Tells mid (after q sources))
     (λ a. expected (next a) (after q sources)) (told q before mid sources answer tells took)
-    (λ on. ends_as_told (next answer) mid later (after q sources) end (insists answer) rest on none memory)
+    (λ on. subst (λ (tells : Bool). TellsEnd tells later end (expected (next answer) (after q sources)))
+    (tells_on q sources)
+    (ends_as_told (next answer) mid later (after q sources) end (insists answer) rest on none memory))
 ends_as_told (needs q next) before later sources end insists (inr (inl faulted)) tells none memory =
     no_fault_is _ (fault_of q) end faulted.1 none
 ends_as_told (needs q next) before later sources end insists (inr (inr given_up)) tells none memory =

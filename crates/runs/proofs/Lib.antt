@@ -1,4 +1,5 @@
 pub mod AskedInOrder
+pub mod Avoiding
 pub mod CountLaws
 pub mod Each
 mod Example
@@ -9,5 +10,4 @@ pub mod Presenting
 pub mod Questions
 pub mod Signing
 pub mod Trees
-pub mod Unsigned
 pub mod Worlds

@@ -1,12 +1,13 @@
 -- A question at the front of a tree: what a function that makes one call of an object has to show.
 use Rattle.std.proofs.Common.{inl, inr, refl, ℕ, List, Bool, Option}
 use Rattle.outside.specs.Calls.{gave, failed, exhausted}
+use Rattle.outside.specs.Clock.{ClockState, IsTold}
 use Rattle.claim_tree.specs.Credential.{Algorithm}
 use Rattle.key_device.specs.Device.{DeviceState, IsJudged, IsSigned}
 use Rattle.runs.specs.Runs.{Ending, fault, out_of_memory, Runs}
-use Rattle.runs.specs.Tree.{Question, Answer, Tree, needs, tries, judge, sign}
+use Rattle.runs.specs.Tree.{Question, Answer, Tree, needs, tries, judge, sign, time}
 use Rattle.runs.specs.World.{World, fault_of, Took, got}
-use Rattle.runs.specs.declared.fault.Fault.TheVariants.{Device}
+use Rattle.runs.specs.declared.fault.Fault.TheVariants.{Device, Clock}
 
 -- ---- any question
 
@@ -105,3 +106,19 @@ pub runs_sign_out : {R A : Type 0} (name message : List ℕ) (next : List ℕ �
     out_of_memory
 runs_sign_out name message next old new w signed =
     runs_exhausted (sign name message) next _ _ (new, refl, signed)
+
+-- ---- the time
+
+-- the clock gave a moment, and the rest went on
+pub runs_time : {R A : Type 0} (next : ℕ → Tree R A) (old new : ClockState) (moment : ℕ) (w after : World)
+    (end : Ending R A)
+    → IsTold old new (gave moment) → Runs (next moment) (record w { clock = new }) after end
+    → Runs (needs time next) (record w { clock = old }) after end
+runs_time next old new moment w after end told rest =
+    runs_needed time next _ (record w { clock = new }) _ moment end (new, refl, told) rest
+
+-- the clock failed
+pub runs_time_fault : {R A : Type 0} (next : ℕ → Tree R A) (old new : ClockState) (w : World)
+    → IsTold old new failed
+    → Runs (needs time next) (record w { clock = old }) (record w { clock = new }) (fault Clock)
+runs_time_fault next old new w told = runs_faulted time next _ _ (new, refl, told)

@@ -9,7 +9,7 @@ use Rattle.runs.specs.Asked.{Answered, answered}
 use Rattle.runs.specs.Runs.{Runs}
 use Rattle.runs.specs.Signed.{Signature, signature_of, signatures, AreGenuine, call_of, calls, HeldStays}
 use Rattle.runs.specs.Signed.{JudgedOnlyAdds}
-use Rattle.runs.specs.Tree.{Question, file, judge, sign, write, Answer, gives, stops, needs, tries}
+use Rattle.runs.specs.Tree.{Question, file, judge, sign, time, write, Answer, gives, stops, needs, tries}
 use Rattle.runs.specs.World.{World, Took, got}
 
 -- ---- what is held
@@ -21,6 +21,7 @@ took_held (judge name alg message signature) before mid answer (new, is, judged)
     ap (λ (w : World). w.device.held) is ∙ judged.held
 took_held (sign name message) before mid answer (new, is, signed) =
     ap (λ (w : World). w.device.held) is ∙ signed.held
+took_held time before mid answer (new, is, told) = ap (λ (w : World). w.device.held) is
 took_held (write text) before mid answer (new, is, taken) = ap (λ (w : World). w.device.held) is
 
 pub held_stays : {R A : Type 0} → HeldStays R A
@@ -58,6 +59,8 @@ took_adds (judge name alg message signature) before mid answer (new, is, judged)
     adds_same _ _ (ap (λ (w : World). w.device.judged) is ∙ judged.judged)
 took_adds (sign name message) before mid answer (new, is, signed) =
     subst (λ (w : World). OnlyAdds before.device.judged w.device.judged) (sym is) signed.kept
+took_adds time before mid answer (new, is, told) =
+    adds_same _ _ (ap (λ (w : World). w.device.judged) is)
 took_adds (write text) before mid answer (new, is, taken) =
     adds_same _ _ (ap (λ (w : World). w.device.judged) is)
 
@@ -120,6 +123,8 @@ took_grew (sign name message) before mid failed (new, is, signed) =
 took_grew (sign name message) before mid exhausted (new, is, signed) =
     subst (λ (w : World). Grew before.device.calls w.device.calls (call_of (sign name message) None))
     (sym is) signed.asked
+took_grew time before mid answer (new, is, told) =
+    grew_none _ _ (ap (λ (w : World). w.device.calls) is)
 took_grew (write text) before mid answer (new, is, taken) =
     grew_none _ _ (ap (λ (w : World). w.device.calls) is)
 
@@ -167,6 +172,7 @@ genuine_at (sign name message) before mid after (Some bytes) (new, is, signed) h
       (subst (λ (w : World). OnlyAdds w.device.judged after.device.judged) is adds) signed.signed,
   tt,
 )
+genuine_at time before mid after answer took held adds = tt
 genuine_at (write text) before mid after answer took held adds = tt
 
 pub all_genuine : (held : Held) (judged : Judges) (first second : List Signature)
@@ -190,4 +196,5 @@ pub genuine_none : (q : Question) (held : Held) (judged : Judges)
 genuine_none (file name limit) held judged = tt
 genuine_none (judge name alg message signature) held judged = tt
 genuine_none (sign name message) held judged = tt
+genuine_none time held judged = tt
 genuine_none (write text) held judged = tt

@@ -1,5 +1,6 @@
 -- A call that changes one object, in a world that has that object.
 use Rattle.std.proofs.Common.{◌≡◌, sym, subst}
+use Rattle.outside.specs.Clock.{ClockState}
 use Rattle.outside.specs.Store.{StoreState}
 use Rattle.outside.specs.Sink.{SinkState}
 use Rattle.key_device.specs.Device.{DeviceState}
@@ -26,4 +27,11 @@ pub at_sink : {R A : Type 0} (t : Tree R A) (old new : SinkState) (end : Ending 
     → (before : World) → before.sink ≡ old → Runs t before (record before { sink = new }) end
 at_sink t old new end runs before same =
     subst (λ (s : SinkState). Runs t (record before { sink = s }) (record before { sink = new }) end)
+    (sym same) (runs before)
+
+pub at_clock : {R A : Type 0} (t : Tree R A) (old new : ClockState) (end : Ending R A)
+    → ((w : World) → Runs t (record w { clock = old }) (record w { clock = new }) end)
+    → (before : World) → before.clock ≡ old → Runs t before (record before { clock = new }) end
+at_clock t old new end runs before same =
+    subst (λ (s : ClockState). Runs t (record before { clock = s }) (record before { clock = new }) end)
     (sym same) (runs before)

@@ -3,7 +3,7 @@ use Rattle.std.specs.Prelude.{◌≡◌, ◌⊎◌, ℕ, ◌≤◌, List, [], �
 use Rattle.std.specs.Prelude.{option_map}
 use Rattle.outside.specs.Store.{Reads, file_read}
 use Rattle.runs.specs.Runs.{Ending, HandsOn, Refuses, Faults, GivesUp}
-use Rattle.runs.specs.Tree.{Question, file, judge, sign, write, Answer, Tree, gives, stops, needs, tries}
+use Rattle.runs.specs.Tree.{Question, file, judge, sign, time, write, Answer, Tree, gives, stops, needs, tries}
 use Rattle.runs.specs.World.{fault_of}
 
 -- a question, and its answer, or none where the object failed or memory ran out in the call
@@ -31,7 +31,21 @@ reads_in [] = []
 reads_in (answered (file name limit) answer ∷ log) = file_read name limit ∷ reads_in log
 reads_in (answered (judge name alg message signature) answer ∷ log) = reads_in log
 reads_in (answered (sign name message) answer ∷ log) = reads_in log
+reads_in (answered time answer ∷ log) = reads_in log
 reads_in (answered (write text) answer ∷ log) = reads_in log
+
+abbrev pub moment_of : (q : Question) → Option (Answer q) → List ℕ
+moment_of (file name limit) answer = []
+moment_of (judge name alg message signature) answer = []
+moment_of (sign name message) answer = []
+moment_of time (Some moment) = moment ∷ []
+moment_of time None = []
+moment_of (write text) answer = []
+
+-- the moments that a clock gives
+abbrev pub moments_in : List Answered → List ℕ
+moments_in [] = []
+moments_in (answered q answer ∷ log) = moment_of q answer ++ moments_in log
 
 -- The texts that a sink is given are written to it, each whole, or up to where the sink failed in it.
 abbrev pub Writes : List Answered → Option (List ℕ) → Option (List ℕ) → Type 0
@@ -39,6 +53,7 @@ Writes [] old new = new ≡ old
 Writes (answered (file name limit) answer ∷ log) old new = Writes log old new
 Writes (answered (judge name alg message signature) answer ∷ log) old new = Writes log old new
 Writes (answered (sign name message) answer ∷ log) old new = Writes log old new
+Writes (answered time answer ∷ log) old new = Writes log old new
 Writes (answered (write text) (Some all) ∷ log) old new =
     Writes log (option_map (λ told. told ++ text) old) new
 Writes (answered (write text) None ∷ log) old new =

@@ -2,7 +2,7 @@
 use Rattle.std.specs.Prelude.{◌≡◌, ◌⊎◌, ⊤, ℕ, ◌≤◌, List, Option}
 use Rattle.outside.specs.Faults.{Rose}
 use Rattle.runs.specs.Runs.{Ending, value, refused, fault, out_of_memory, Runs}
-use Rattle.runs.specs.Tree.{Question, file, judge, sign, write, Answer, Tree, gives, stops, needs, tries}
+use Rattle.runs.specs.Tree.{Question, file, judge, sign, time, write, Answer, Tree, gives, stops, needs, tries}
 use Rattle.runs.specs.World.{World, fault_of}
 use Rattle.runs.specs.declared.fault.Fault.{Fault}
 
@@ -10,16 +10,23 @@ use Rattle.runs.specs.declared.fault.Fault.{Fault}
 pub record Counts : Type 0 where
   pub store : List ℕ → ℕ
   pub device : ℕ
+  pub clock : ℕ
   pub sink : ℕ
 
 abbrev pub counts : World → Counts
-counts w = record { store = w.store.faults; device = w.device.faults; sink = w.sink.faults }
+counts w = record {
+  store = w.store.faults;
+  device = w.device.faults;
+  clock = w.clock.faults;
+  sink = w.sink.faults;
+}
 
 -- the count rose of the object that is asked this; of the store, that of the name
 abbrev pub RoseBy : Question → Counts → Counts → Type 0
 RoseBy (file name limit) before after = Rose (before.store name) (after.store name)
 RoseBy (judge name alg message signature) before after = Rose before.device after.device
 RoseBy (sign name message) before after = Rose before.device after.device
+RoseBy time before after = Rose before.clock after.clock
 RoseBy (write text) before after = Rose before.sink after.sink
 
 -- some answers lead the tree to this question
@@ -28,6 +35,10 @@ MayAsk (gives v) q = ⊥
 MayAsk (stops refusal) q = ⊥
 MayAsk (needs asked next) q = (q ≡ asked) ⊎ ((answer : Answer asked) × MayAsk (next answer) q)
 MayAsk (tries asked next) q = (q ≡ asked) ⊎ ((answer : Option (Answer asked)) × MayAsk (next answer) q)
+
+-- no answers lead the tree to a question of this kind
+abbrev pub Avoids : {R A : Type 0} → (Question → Type 0) → Tree R A → Type 0
+Avoids P t = (q : Question) → P q → ¬ MayAsk t q
 
 -- a question of the tree that asks this object, and at which the object's count rose
 pub record Cause {R A : Type 0} (t : Tree R A) (before after : Counts) (f : Fault) : Type 0 where
@@ -45,6 +56,7 @@ FaultsHaveCauses R A = (t : Tree R A) (before after : World) (f : Fault) → Run
 pub record Later (before after : Counts) : Type 0 where
   pub store : (name : List ℕ) → before.store name ≤ after.store name
   pub device : before.device ≤ after.device
+  pub clock : before.clock ≤ after.clock
   pub sink : before.sink ≤ after.sink
 
 -- However a run ends, no count fell.

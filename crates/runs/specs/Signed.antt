@@ -3,9 +3,9 @@ use Rattle.std.specs.Prelude.{◌≡◌, ⊤, ℕ, List, [], ◌∷◌, ◌++◌
 use Rattle.key_device.specs.Calls.{Call, signs, judges, Held, Judges}
 use Rattle.key_device.specs.Device.{IsGenuine, OnlyAdds}
 use Rattle.runs.specs.Asked.{Answered, answered}
-use Rattle.runs.specs.Counts.{MayAsk}
+use Rattle.runs.specs.Counts.{Avoids}
 use Rattle.runs.specs.Runs.{Ending, Runs}
-use Rattle.runs.specs.Tree.{Question, file, judge, sign, write, Answer, Tree}
+use Rattle.runs.specs.Tree.{Question, file, judge, sign, time, write, Answer, Tree}
 use Rattle.runs.specs.World.{World}
 
 -- ---- signatures
@@ -22,6 +22,7 @@ signature_of (judge name alg message signature) answer = []
 signature_of (sign name message) (Some bytes) =
     record { name = name; message = message; bytes = bytes } ∷ []
 signature_of (sign name message) None = []
+signature_of time answer = []
 signature_of (write text) answer = []
 
 -- the signatures that were given, in their order
@@ -40,6 +41,7 @@ abbrev pub call_of : (q : Question) → Option (Answer q) → List Call
 call_of (file name limit) answer = []
 call_of (judge name alg message signature) answer = judges name alg message signature ∷ []
 call_of (sign name message) answer = signs name message answer ∷ []
+call_of time answer = []
 call_of (write text) answer = []
 
 -- the calls of the device, in their order
@@ -49,9 +51,17 @@ calls (answered q answer ∷ log) = call_of q answer ++ calls log
 
 -- ---- trees that ask for none
 
+-- a signature is asked for
+abbrev pub IsSigning : Question → Type 0
+IsSigning (file name limit) = ⊥
+IsSigning (judge name alg message signature) = ⊥
+IsSigning (sign name message) = ⊤
+IsSigning time = ⊥
+IsSigning (write text) = ⊥
+
 -- no answers lead the tree to ask for a signature
 abbrev pub SignsNothing : {R A : Type 0} → Tree R A → Type 0
-SignsNothing t = (name message : List ℕ) → ¬ MayAsk t (sign name message)
+SignsNothing t = Avoids IsSigning t
 
 -- ---- what stays
 

@@ -11,18 +11,21 @@ use Rattle.outside.specs.Store.{File}
 -- `judge name algorithm message signature`: the device is asked whether this is a signature of the message by
 -- the key of this name, in this algorithm.
 -- `sign name message`: the device is asked for a signature of the message by the key of this name.
+-- `time`: the clock is asked for the moment, in seconds since 1970-01-01T00:00:00Z.
 -- `write text`: the sink is given a text.
 -- A further object brings its questions here.
 pub data Question : Type 0 where
   file : List ℕ → ℕ → Question
   judge : List ℕ → Algorithm → List ℕ → List ℕ → Question
   sign : List ℕ → List ℕ → Question
+  time : Question
   write : List ℕ → Question
 
 abbrev pub Answer : Question → Type 0
 Answer (file name limit) = File
 Answer (judge name alg message signature) = Bool
 Answer (sign name message) = List ℕ
+Answer time = ℕ
 Answer (write text) = Written
 
 -- ---- trees

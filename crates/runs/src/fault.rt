@@ -7,6 +7,8 @@ pub enum Fault {
     Read,
     /// The device of keys.
     Device,
+    /// The clock.
+    Clock,
     /// The sink.
     Write,
 }

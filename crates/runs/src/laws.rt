@@ -1,6 +1,6 @@
 // What holds of every run, whatever the tree.
 ghost use Rattle.runs.specs.Counts.{FaultsHaveCauses, CountsNeverFall, CountsStay};
-ghost use Rattle.runs.specs.Expected.{EndsAsExpected, EndsAsTold, ExpectsNoSignature};
+ghost use Rattle.runs.specs.Expected.{EndsAsExpected, EndsAsTold, ExpectsTold};
 ghost use Rattle.runs.specs.Presented.{PresentsEach};
 ghost use Rattle.runs.specs.Signed.{HeldStays, JudgedOnlyAdds};
 ghost use Rattle.runs.specs.Went.{AsksInOrder};
@@ -18,11 +18,12 @@ pub fn counts_stay<R, A>()
 
 /// Where no count rose of what the tree asks, and memory did not run out, a run ends as the objects
 /// determine. Where a tree passes over no fault, it is enough that a run does not end by one. What comes
-/// after a signature is not determined; a tree that asks for none is expected to ask for none.
+/// after a signature, or after the moment of a clock that tells none, is not determined; a tree that never
+/// asks for these is not expected to.
 pub fn ends_as_expected<R, A>()
     ensures expected { EndsAsExpected R A }
     ensures told { EndsAsTold R A }
-    ensures unsigned { ExpectsNoSignature R A }
+    ensures determined { ExpectsTold R A }
 {}
 
 /// The objects were asked what the tree asks, in that order, and nothing else. Each signature that was given
