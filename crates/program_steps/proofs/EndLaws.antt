@@ -14,14 +14,15 @@ use Rattle.program_steps.specs.Laws as laws
 use Rattle.program_steps.specs.Laws.{IsCaused, owed, Completes}
 use Rattle.program_steps.specs.Outcome.{Outcome, usage, fault_line, fault_status}
 use Rattle.program_steps.specs.Own.{is_own}
+use Rattle.runs.specs.Asked.{moments_in}
 use Rattle.runs.specs.Counts.{Counts, counts, Cause, Later, Insists}
-use Rattle.runs.specs.Expected.{Sources, Tells, expected, NoneRose, AsksToSign}
+use Rattle.runs.specs.Expected.{Sources, Tells, expected, NoneRose, clock_tells, AsksUntold}
 use Rattle.runs.specs.Runs.{Ending, value, refused, fault, out_of_memory, Runs}
 use Rattle.runs.specs.Signed.{signatures, AreGenuine, calls}
 use Rattle.runs.specs.Tree.{Question, Tree}
 use Rattle.runs.specs.World.{World}
 use Rattle.runs.specs.declared.fault.Fault.{Fault}
-use Rattle.runs.specs.declared.fault.Fault.TheVariants.{Read, Device, Write}
+use Rattle.runs.specs.declared.fault.Fault.TheVariants.{Read, Device, Clock, Write}
 use Rattle.runs.proofs.AskedInOrder as asked
 use Rattle.runs.proofs.CountLaws as runs
 use Rattle.runs.proofs.CountLaws.{rose_on}
@@ -34,27 +35,37 @@ use Rattle.runs.proofs.Signing as signing
 not_own : (f : Fault) → is_own (fault_status f) ≡ true → ⊥
 not_own Read own = cc
 not_own Device own = cc
+not_own Clock own = cc
 not_own Write own = cc
 
 not_usage : (f : Fault) → fault_status f ≡ Usage → ⊥
 not_usage Read is = cc
 not_usage Device is = cc
+not_usage Clock is = cc
 not_usage Write is = cc
 
 not_memory : (f : Fault) → fault_status f ≡ NoMemory → ⊥
 not_memory Read is = cc
 not_memory Device is = cc
+not_memory Clock is = cc
 not_memory Write is = cc
 
 same_fault : (f g : Fault) → fault_status f ≡ fault_status g → f ≡ g
 same_fault Read Read is = refl
 same_fault Read Device is = absurd (cc)
+same_fault Read Clock is = absurd (cc)
 same_fault Read Write is = absurd (cc)
 same_fault Device Read is = absurd (cc)
 same_fault Device Device is = refl
+same_fault Device Clock is = absurd (cc)
 same_fault Device Write is = absurd (cc)
+same_fault Clock Read is = absurd (cc)
+same_fault Clock Device is = absurd (cc)
+same_fault Clock Clock is = refl
+same_fault Clock Write is = absurd (cc)
 same_fault Write Read is = absurd (cc)
 same_fault Write Device is = absurd (cc)
+same_fault Write Clock is = absurd (cc)
 same_fault Write Write is = refl
 
 -- ---- the sink, as the end is written
@@ -74,13 +85,14 @@ closes_later out_of_memory old new status closes = rw closes.0 (omega arith)
 sink_later : (mid later : World) → later ≡ record mid { sink = later.sink }
     → mid.sink.faults ≤ later.sink.faults → Later (counts mid) (counts later)
 sink_later mid later is more =
-    rw is (record { store = λ name. omega arith; device = omega arith; sink = more })
+    rw is (record { store = λ name. omega arith; device = omega arith; clock = omega arith; sink = more })
 
 later_on : (before mid later : Counts) → Later before mid → Later mid later → Later before later
 later_on before mid later one two = record {
   store = λ name.
       omega (arith, one.store name, two.store name);
   device = omega (arith, one.device, two.device);
+  clock = omega (arith, one.clock, two.clock);
   sink = omega (arith, one.sink, two.sink);
 }
 
@@ -179,7 +191,7 @@ no_command_is_usage before later status ran other = usage_at before.sink later.s
 
 pub no_command_asks_nothing : laws.NoCommandAsksNothing
 no_command_asks_nothing before later status ran =
-    (ap (λ (w : World). w.store) ran.0, ap (λ (w : World). w.device) ran.0)
+    (ap (λ (w : World). w.store) ran.0, ap (λ (w : World). w.device) ran.0, ap (λ (w : World). w.clock) ran.0)
 
 -- ---- completeness
 
@@ -197,6 +209,7 @@ written_whole o mid later told status same taken is tells = record {
   status = is;
   text = taken.taken ∙ ap (option_map (λ (bytes : List ℕ). bytes ++ o.text)) tells.written;
   reads = ap (λ (w : World). w.store.reads) same ∙ tells.reads;
+  moments = ap (λ (w : World). w.clock.moments) same ∙ tells.moments;
 }
 
 ends_whole : (o : Outcome) (mid later : World) (told : Sources) (status : Status)
@@ -275,7 +288,7 @@ told_end : (t : Tree Outcome Outcome) (before mid later : World) (sources : Sour
     → Closes end mid.sink later.sink status → Tells before sources → ((f : Fault) → status ≢ fault_status f)
     → status ≢ NoMemory
     → IsSomeAnd (expected t sources).end (λ e. Completes later (expected t sources).told (owed e) status)
-    ⊎ AsksToSign (expected t sources).asked
+    ⊎ AsksUntold (clock_tells sources) (expected t sources).asked
 told_end t before mid later sources (value o) status insists run is closes tells other memory =
     told_at (expected t sources).end (value o) mid later (expected t sources).told status _
     (ends.ends_as_told t before mid sources (value o) insists run tells tt
@@ -322,6 +335,8 @@ asks_in_order tree before later status (end, mid, run, own, is, closes) =
       pieces = closes_pieces end mid.sink later.sink status closes ∙ went.pieces;
       calls = subst (λ (w : World). Grew before.device.calls w.device.calls (calls went.log)) (sym is)
           went.calls;
+      moments = went.moments ∙ ap (λ (w : World). option_map (λ later. moments_in went.log ++ later)
+          w.clock.moments) (sym is);
       genuine = subst (λ (w : World). AreGenuine w.device.held w.device.judged (signatures went.log)) (sym is)
           went.genuine;
     }

@@ -8,9 +8,9 @@ use Rattle.program_steps.specs.Ends.{Ran}
 use Rattle.program_steps.specs.Outcome.{Outcome, ends_with, fault_line, fault_status}
 use Rattle.key_device.specs.Calls.{Grew}
 use Rattle.key_device.specs.Device.{OnlyAdds}
-use Rattle.runs.specs.Asked.{Answered, Goes, reads_in}
+use Rattle.runs.specs.Asked.{Answered, Goes, reads_in, moments_in}
 use Rattle.runs.specs.Counts.{Counts, counts, Cause, Later, Insists}
-use Rattle.runs.specs.Expected.{Sources, Tells, expected, NoneRose, AsksToSign}
+use Rattle.runs.specs.Expected.{Sources, Tells, expected, NoneRose, clock_tells, AsksUntold}
 use Rattle.runs.specs.Runs.{Ending, value, refused, fault, out_of_memory}
 use Rattle.runs.specs.Signed.{signatures, AreGenuine, calls}
 use Rattle.runs.specs.Tree.{Tree}
@@ -53,12 +53,13 @@ owed (refused outcome) = outcome
 owed (fault f) = fault_line f
 owed out_of_memory = ends_with NoMemory []
 
--- The outcome of this end is answered and written after what was written before, and the reads are those that
--- were made on the way.
+-- The outcome of this end is answered and written after what was written before, the reads are those that
+-- were made on the way, and the moments that the clock has still to give are those that are left.
 pub record Completes (later : World) (told : Sources) (outcome : Outcome) (answer : Status) : Type 0 where
   pub status : answer ≡ outcome.status
   pub text : later.sink.written ≡ option_map (λ bytes. bytes ++ outcome.text) told.written
   pub reads : later.store.reads ≡ told.reads
+  pub moments : later.clock.moments ≡ told.moments
 
 -- Where no count rose of what the command asks, nor that of the sink, and memory did not run out, the outcome
 -- is exactly the one that the words and what the objects tell determine.
@@ -71,19 +72,19 @@ EndsComplete = (tree : Tree Outcome Outcome) (before later : World) (sources : S
     (owed end) status)
 
 -- Where the tree passes over no fault, and no fault is answered and memory did not run out, the same holds
--- whatever the counts are; or else a signature is asked for, which they do not determine.
+-- whatever the counts are; or else something is asked for that they do not tell.
 abbrev pub EndsAsTold : Type 0
 EndsAsTold = (tree : Tree Outcome Outcome) (before later : World) (sources : Sources) (status : Status)
     → Insists tree → Ran (Some tree) before later status → Tells before sources
     → ((f : Fault) → status ≢ fault_status f) → status ≢ NoMemory
     → IsSomeAnd (expected tree sources).end (λ end. Completes later (expected tree sources).told
     (owed end) status)
-    ⊎ AsksToSign (expected tree sources).asked
+    ⊎ AsksUntold (clock_tells sources) (expected tree sources).asked
 
 -- ---- what was asked
 
 -- The tree goes along what was answered, to an end whose status is answered, unless the sink failed as the
--- end was written. That is all that the store and the device were asked for; each signature in it is judged
+-- end was written. That is all that the store, the device and the clock were asked for; each signature in it is judged
 -- yes by the device as it is left; the store's files are as they were; and the sink was offered no empty
 -- piece.
 pub record Asked (tree : Tree Outcome Outcome) (before after : World) (status : Status) : Type 0 where
@@ -95,17 +96,18 @@ pub record Asked (tree : Tree Outcome Outcome) (before after : World) (status : 
   pub files : after.store.files ≡ before.store.files
   pub pieces : after.sink.empty_pieces ≡ before.sink.empty_pieces
   pub calls : Grew before.device.calls after.device.calls (calls log)
+  pub moments : before.clock.moments ≡ option_map (λ later. moments_in log ++ later) after.clock.moments
   pub genuine : AreGenuine after.device.held after.device.judged (signatures log)
 
 -- The objects are asked what the tree asks, in that order, and nothing else. Words that are no command ask
--- the store and the device nothing.
+-- the store, the device and the clock nothing.
 abbrev pub AsksInOrder : Type 0
 AsksInOrder = (tree : Tree Outcome Outcome) (before after : World) (status : Status)
     → Ran (Some tree) before after status → Asked tree before after status
 
 abbrev pub NoCommandAsksNothing : Type 0
 NoCommandAsksNothing = (before after : World) (status : Status) → Ran None before after status
-    → (after.store ≡ before.store) × (after.device ≡ before.device)
+    → (after.store ≡ before.store) × (after.device ≡ before.device) × (after.clock ≡ before.clock)
 
 -- ---- counts
 

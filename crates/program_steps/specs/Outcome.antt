@@ -3,9 +3,9 @@ use Rattle.std.specs.Prelude.{ℕ, List, [], ◌∷◌, ◌++◌, codes}
 use Rattle.std.specs.Fmt.{decimal}
 use Rattle.outside.specs.declared.status.Status.{Status}
 use Rattle.outside.specs.declared.status.Status.TheVariants.{Usage, RequestRefused, ReadFault, WriteFault}
-use Rattle.outside.specs.declared.status.Status.TheVariants.{DeviceFault, FileRefused, TooLong}
+use Rattle.outside.specs.declared.status.Status.TheVariants.{DeviceFault, ClockFault, FileRefused, TooLong}
 use Rattle.runs.specs.declared.fault.Fault.{Fault}
-use Rattle.runs.specs.declared.fault.Fault.TheVariants.{Read, Device, Write}
+use Rattle.runs.specs.declared.fault.Fault.TheVariants.{Read, Device, Clock, Write}
 
 pub record Outcome : Type 0 where
   pub status : Status
@@ -26,6 +26,7 @@ usage = ends_with Usage (line (codes "usage"))
 abbrev pub fault_line : Fault → Outcome
 fault_line Read = ends_with ReadFault (line (codes "read fault"))
 fault_line Device = ends_with DeviceFault (line (codes "device fault"))
+fault_line Clock = ends_with ClockFault (line (codes "clock fault"))
 fault_line Write = ends_with WriteFault []
 
 -- the status of a fault

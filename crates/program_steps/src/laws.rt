@@ -11,7 +11,7 @@ pub fn statuses_have_causes()
 {}
 
 /// `Usage` is answered only where the words are no command. There nothing but `WriteFault` can come in its
-/// place, and the store and the device are asked nothing.
+/// place, and the store, the device and the clock are asked nothing.
 pub fn usage_is_no_command()
     ensures usage { UsageIsNoCommand }
     ensures no_command { NoCommandIsUsage }
@@ -20,8 +20,8 @@ pub fn usage_is_no_command()
 
 /// Where no count rose of what the command asks, nor that of the sink, and memory did not run out, the
 /// status, the text and the reads are exactly those that the words and what the objects tell determine. Where
-/// the tree passes over no fault, it is enough that no fault is answered. What comes after a signature is not
-/// determined.
+/// the tree passes over no fault, it is enough that no fault is answered. What comes after a signature, or
+/// after the moment of a clock that tells none, is not determined.
 pub fn ends_complete()
     ensures complete { EndsComplete }
     ensures told { EndsAsTold }

@@ -39,6 +39,7 @@ fn print_fault<O: Sink>(out: &mut O, fault: Fault) -> Status
     match fault {
         Fault::Read => finish(out, Status::ReadFault, "read fault\n"),
         Fault::Device => finish(out, Status::DeviceFault, "device fault\n"),
+        Fault::Clock => finish(out, Status::ClockFault, "clock fault\n"),
         Fault::Write => finish(out, Status::WriteFault, ""),
     }
 }
