@@ -1,6 +1,7 @@
 // The whole program: its arguments, and its exit code.
 ghost use Rattle.std.specs.Prelude.{map, option_map, string_bytes};
 ghost use Rattle.std.specs.Process.{exit_status};
+ghost use Rattle.outside.specs.Clock.{ClockState};
 ghost use Rattle.outside.specs.Words.{words_in};
 ghost use Rattle.bench_top.specs.Program.{Exits};
 
@@ -21,9 +22,19 @@ pub fn exit_code<S: Store, O: Sink, K: KeyDevice>(
     out: &mut O,
     device: &mut K,
 ) -> ExitCode
-    ensures { Exits (option_map (map string_bytes) (words_in arguments))
-        (record { store = S.state store.old; device = K.state device.old; sink = O.state out.old })
-        (record { store = S.state store.new; device = K.state device.new; sink = O.state out.new })
+    ensures { (clock : ClockState) → Exits (option_map (map string_bytes) (words_in arguments))
+        (record {
+          store = S.state store.old;
+          device = K.state device.old;
+          clock = clock;
+          sink = O.state out.old;
+        })
+        (record {
+          store = S.state store.new;
+          device = K.state device.new;
+          clock = clock;
+          sink = O.state out.new;
+        })
         (exit_status result) }
 {
     let Ok(words) = words(alloc, arguments) else {

@@ -1,5 +1,6 @@
 // The top call.
 ghost use Rattle.std.specs.Prelude.{◌≡◌, IfOk, map, string_bytes};
+ghost use Rattle.outside.specs.Clock.{ClockState};
 ghost use Rattle.program_steps.specs.Ends.{Ran};
 ghost use Rattle.program_steps.specs.code.Endings.{ending, outcome, StopsBy};
 ghost use Rattle.runs.specs.Runs.{Runs};
@@ -25,6 +26,8 @@ use std::alloc::{AllocError, Global};
 /// base64url of a mobile document. A spec that breaks a rule is answered with `spec refused` and the least of
 /// them ([`issue`]), and one whose key the device does not hold with `key missing`.
 ///
+/// It is given no clock: the contract holds beside any clock, which stays as it is.
+///
 /// What follows of the contract, for every store, sink and device, stands in the laws of `program_steps`, as
 /// the docs of `wallet_top::run` tell; [`passes_no_fault`](crate::passes_no_fault) says that no fault is
 /// passed over.
@@ -35,9 +38,21 @@ pub fn run<S: Store, O: Sink, K: KeyDevice>(
     out: &mut O,
     device: &mut K,
 ) -> Status
-    ensures { Ran (tree_of_words (K.state device.old).held (map string_bytes words.now))
-        (record { store = S.state store.old; device = K.state device.old; sink = O.state out.old })
-        (record { store = S.state store.new; device = K.state device.new; sink = O.state out.new }) result }
+    ensures { (clock : ClockState)
+        → Ran (tree_of_words (K.state device.old).held (map string_bytes words.now))
+        (record {
+          store = S.state store.old;
+          device = K.state device.old;
+          clock = clock;
+          sink = O.state out.old;
+        })
+        (record {
+          store = S.state store.new;
+          device = K.state device.new;
+          clock = clock;
+          sink = O.state out.new;
+        })
+        result }
 {
     let Some(name) = spec_named(words) else {
         return finish(out, Status::Usage, "usage\n");

@@ -2,8 +2,8 @@
 use Rattle.std.specs.Prelude.{◌≡◌, ℕ, List, ◌∷◌, Option, option_map}
 use Rattle.outside.specs.Calls.{Given, gave, failed, exhausted, Counts}
 
--- The moments still to come, in seconds since 1970-01-01T00:00:00Z, where the clock tells them; and a count of
--- faults.
+-- The moments still to come, in seconds since 1970-01-01T00:00:00Z, where the clock tells them; and a count
+-- of faults.
 pub record ClockState : Type 0 where
   pub moments : Option (List ℕ)
   pub faults : ℕ

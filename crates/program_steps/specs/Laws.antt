@@ -84,9 +84,9 @@ EndsAsTold = (tree : Tree Outcome Outcome) (before later : World) (sources : Sou
 -- ---- what was asked
 
 -- The tree goes along what was answered, to an end whose status is answered, unless the sink failed as the
--- end was written. That is all that the store, the device and the clock were asked for; each signature in it is judged
--- yes by the device as it is left; the store's files are as they were; and the sink was offered no empty
--- piece.
+-- end was written. That is all that the store, the device and the clock were asked for; each signature in it
+-- is judged yes by the device as it is left; the store's files are as they were; and the sink was offered no
+-- empty piece.
 pub record Asked (tree : Tree Outcome Outcome) (before after : World) (status : Status) : Type 0 where
   pub end : Ending Outcome Outcome
   pub log : List Answered

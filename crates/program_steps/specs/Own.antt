@@ -1,10 +1,10 @@
 -- The statuses that a command chooses itself, once its words are read and no object has failed.
 use Rattle.std.specs.Prelude.{Bool, true, false}
 use Rattle.outside.specs.declared.status.Status.{Status}
-use Rattle.outside.specs.declared.status.Status.TheVariants.{Done, Usage, RequestRefused, NotAnOption, NoOption}
-use Rattle.outside.specs.declared.status.Status.TheVariants.{ReadFault, WriteFault, DeviceFault, ClockFault}
-use Rattle.outside.specs.declared.status.Status.TheVariants.{FileRefused, TooLong, NoMemory, NotOne, KeyMissing}
-use Rattle.outside.specs.declared.status.Status.TheVariants.{SpecRefused}
+use Rattle.outside.specs.declared.status.Status.TheVariants.{Done, Usage, RequestRefused, NotAnOption}
+use Rattle.outside.specs.declared.status.Status.TheVariants.{NoOption, ReadFault, WriteFault, DeviceFault}
+use Rattle.outside.specs.declared.status.Status.TheVariants.{ClockFault, FileRefused, TooLong, NoMemory}
+use Rattle.outside.specs.declared.status.Status.TheVariants.{NotOne, KeyMissing, SpecRefused}
 
 abbrev pub is_own : Status → Bool
 is_own Done = true

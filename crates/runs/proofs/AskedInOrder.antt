@@ -91,7 +91,8 @@ moments_then old mid (Some told) first second one two =
     one ∙ ap (option_map (λ (later : List ℕ). first ++ later)) two
     ∙ ap (λ (l : List ℕ). Some l) (sym (append_assoc first second told))
 
-took_moments : (q : Question) (before mid : World) (answer : Option (Answer q)) → Took q before mid (got answer)
+took_moments : (q : Question) (before mid : World) (answer : Option (Answer q))
+    → Took q before mid (got answer)
     → before.clock.moments ≡ option_map (λ later. moment_of q answer ++ later) mid.clock.moments
 took_moments (file name limit) before mid answer (new, is, read) =
     moments_none _ _ (ap (λ (w : World). w.clock.moments) is)

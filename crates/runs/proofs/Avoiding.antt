@@ -104,7 +104,8 @@ told_by tells (needs q next) sources same none =
     (λ answer. told_by tells (next answer) (after q sources) (tells_on q sources ∙ same)
     (λ other untold asked. none other untold (inr (answer, asked))))
 told_by tells (tries q next) sources same none =
-    by_avoided tells q sources (answer_of q sources) (λ answer. expected (next (Some answer)) (after q sources))
+    by_avoided tells q sources (answer_of q sources)
+    (λ answer. expected (next (Some answer)) (after q sources))
     (λ untold. none q untold (inl refl))
     (λ answer. told_by tells (next (Some answer)) (after q sources) (tells_on q sources ∙ same)
     (λ other untold asked. none other untold (inr (Some answer, asked))))

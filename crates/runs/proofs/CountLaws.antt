@@ -6,7 +6,8 @@ use Rattle.outside.specs.Faults.{Rose}
 use Rattle.runs.specs.Counts.{Counts, counts, RoseBy, MayAsk, Cause, FaultsHaveCauses, Later, CountsNeverFall}
 use Rattle.runs.specs.Counts.{Insists, IsNoFault, CountsStay}
 use Rattle.runs.specs.Runs.{Ending, value, refused, fault, out_of_memory, Faults, Runs}
-use Rattle.runs.specs.Tree.{Question, file, judge, sign, time, write, Answer, Tree, gives, stops, needs, tries}
+use Rattle.runs.specs.Tree.{Question, file, judge, sign, time, write, Answer, Tree, gives, stops, needs}
+use Rattle.runs.specs.Tree.{tries}
 use Rattle.runs.specs.World.{World, fault_of, Took, got}
 use Rattle.runs.specs.declared.fault.Fault.{Fault}
 

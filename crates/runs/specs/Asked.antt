@@ -3,7 +3,8 @@ use Rattle.std.specs.Prelude.{◌≡◌, ◌⊎◌, ℕ, ◌≤◌, List, [], �
 use Rattle.std.specs.Prelude.{option_map}
 use Rattle.outside.specs.Store.{Reads, file_read}
 use Rattle.runs.specs.Runs.{Ending, HandsOn, Refuses, Faults, GivesUp}
-use Rattle.runs.specs.Tree.{Question, file, judge, sign, time, write, Answer, Tree, gives, stops, needs, tries}
+use Rattle.runs.specs.Tree.{Question, file, judge, sign, time, write, Answer, Tree, gives, stops, needs}
+use Rattle.runs.specs.Tree.{tries}
 use Rattle.runs.specs.World.{fault_of}
 
 -- a question, and its answer, or none where the object failed or memory ran out in the call

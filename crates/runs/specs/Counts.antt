@@ -2,7 +2,8 @@
 use Rattle.std.specs.Prelude.{◌≡◌, ◌⊎◌, ⊤, ℕ, ◌≤◌, List, Option}
 use Rattle.outside.specs.Faults.{Rose}
 use Rattle.runs.specs.Runs.{Ending, value, refused, fault, out_of_memory, Runs}
-use Rattle.runs.specs.Tree.{Question, file, judge, sign, time, write, Answer, Tree, gives, stops, needs, tries}
+use Rattle.runs.specs.Tree.{Question, file, judge, sign, time, write, Answer, Tree, gives, stops, needs}
+use Rattle.runs.specs.Tree.{tries}
 use Rattle.runs.specs.World.{World, fault_of}
 use Rattle.runs.specs.declared.fault.Fault.{Fault}
 

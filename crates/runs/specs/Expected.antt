@@ -7,7 +7,8 @@ use Rattle.outside.specs.Store.{Files, Reads, file_read, File, whole, longer}
 use Rattle.key_device.specs.Calls.{Judges}
 use Rattle.runs.specs.Counts.{Counts, counts, RoseBy, Avoids, Insists, IsNoFault}
 use Rattle.runs.specs.Runs.{Ending, value, refused, out_of_memory, Runs}
-use Rattle.runs.specs.Tree.{Question, file, judge, sign, time, write, Answer, Tree, gives, stops, needs, tries}
+use Rattle.runs.specs.Tree.{Question, file, judge, sign, time, write, Answer, Tree, gives, stops, needs}
+use Rattle.runs.specs.Tree.{tries}
 use Rattle.runs.specs.World.{World}
 
 -- the files of a store, and the reads that were made and the bytes that were written so far, where these are
@@ -89,7 +90,7 @@ EndsAsExpected R A = (t : Tree R A) (before later : World) (sources : Sources) (
 abbrev pub clock_tells : Sources → Bool
 clock_tells sources = is_some sources.moments
 
--- No object tells the answer: a signature is asked for, or the time of a clock that does not tell its moments.
+-- No object tells the answer: a signature is asked for, or the time of a clock that tells no moments.
 abbrev pub IsUntold : Bool → Question → Type 0
 IsUntold tells (file name limit) = ⊥
 IsUntold tells (judge name alg message signature) = ⊥

@@ -9,8 +9,8 @@ use Rattle.runs.specs.World.{World}
 
 -- What was answered: the tree goes along it to the end; it is all that the store, the device and the clock
 -- were asked for, and all that was written to the sink, where they tell it; each signature in it is judged
--- yes by the device as it is left; the sink was offered no empty piece; and the store's files are as they were. Where
--- memory ran out in the last read, the store may have that on record, or not.
+-- yes by the device as it is left; the sink was offered no empty piece; and the store's files are as they
+-- were. Where memory ran out in the last read, the store may have that on record, or not.
 pub record Went {R A : Type 0} (t : Tree R A) (before after : World) (end : Ending R A) : Type 0 where
   pub log : List Answered
   pub goes : Goes t log end

@@ -1,2 +1,2 @@
+mod Asking
 pub mod NoFaultPassed
-mod NothingSigned

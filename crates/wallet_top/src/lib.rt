@@ -11,6 +11,6 @@ mod program;
 mod top;
 mod trying;
 
-pub use laws::{passes_no_fault, signs_nothing};
+pub use laws::{asks_what_is_told, passes_no_fault, signs_nothing};
 pub use program::exit_code;
 pub use top::run;

@@ -2,6 +2,7 @@
 ghost use Rattle.std.specs.Prelude.{map, option_map, string_bytes};
 ghost use Rattle.std.specs.Process.{exit_status};
 ghost use Rattle.key_device.specs.Device.{DeviceState};
+ghost use Rattle.outside.specs.Clock.{ClockState};
 ghost use Rattle.outside.specs.Words.{words_in};
 ghost use Rattle.wallet_top.specs.Program.{Exits};
 
@@ -20,9 +21,11 @@ pub fn exit_code<S: Store, O: Sink>(
     store: &mut S,
     out: &mut O,
 ) -> ExitCode
-    ensures { (device : DeviceState) → Exits (option_map (map string_bytes) (words_in arguments))
-        (record { store = S.state store.old; device = device; sink = O.state out.old })
-        (record { store = S.state store.new; device = device; sink = O.state out.new }) (exit_status result) }
+    ensures { (device : DeviceState) (clock : ClockState)
+        → Exits (option_map (map string_bytes) (words_in arguments))
+        (record { store = S.state store.old; device = device; clock = clock; sink = O.state out.old })
+        (record { store = S.state store.new; device = device; clock = clock; sink = O.state out.new })
+        (exit_status result) }
 {
     let Ok(words) = words(alloc, arguments) else {
         return ExitCode::from(Status::NoMemory.code());

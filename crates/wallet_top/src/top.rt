@@ -1,6 +1,7 @@
 // The top call.
 ghost use Rattle.std.specs.Prelude.{map, string_bytes};
 ghost use Rattle.key_device.specs.Device.{DeviceState};
+ghost use Rattle.outside.specs.Clock.{ClockState};
 ghost use Rattle.program_steps.specs.Ends.{Ran};
 ghost use Rattle.program_steps.specs.code.Endings.{ending, outcome};
 ghost use Rattle.runs.specs.Runs.{Runs};
@@ -26,7 +27,8 @@ use std::alloc::Global;
 /// every claim of some claim set of the query in the file QUERY, and then `end`; or `none` where there is no
 /// such line.
 ///
-/// It is given no device of keys: the contract holds beside any device, which stays as it is.
+/// It is given no device of keys and no clock: the contract holds beside any of these, which stay as they
+/// are.
 ///
 /// What follows of the contract, for every store and sink, stands in the laws of `program_steps`:
 /// [`statuses_have_causes`](program_steps::statuses_have_causes): the status of a fault comes only where the
@@ -34,14 +36,15 @@ use std::alloc::Global;
 /// [`usage_is_no_command`](program_steps::usage_is_no_command): `Usage` comes exactly for words that are no
 /// command, and then nothing is read; [`ends_complete`](program_steps::ends_complete): where no count rose
 /// and memory did not run out, status, text and reads are those that the words and the told files determine,
-/// and by [`passes_no_fault`] and [`signs_nothing`] it is enough that no fault is answered;
+/// and by [`passes_no_fault`] and [`asks_what_is_told`] it is enough that no fault is answered;
 /// [`asks_in_order`](program_steps::asks_in_order): the objects are asked what the tree asks, in that order,
 /// and nothing else, and the files stay as they are; [`counts_stay`](program_steps::counts_stay) with
 /// [`passes_no_fault`]: no count falls, and none rose where no fault is answered.
 pub fn run<S: Store, O: Sink>(alloc: Global, words: &[String], store: &mut S, out: &mut O) -> Status
-    ensures { (device : DeviceState) → Ran (tree_of_words (map string_bytes words.now))
-        (record { store = S.state store.old; device = device; sink = O.state out.old })
-        (record { store = S.state store.new; device = device; sink = O.state out.new }) result }
+    ensures { (device : DeviceState) (clock : ClockState) → Ran (tree_of_words (map string_bytes words.now))
+        (record { store = S.state store.old; device = device; clock = clock; sink = O.state out.old })
+        (record { store = S.state store.new; device = device; clock = clock; sink = O.state out.new })
+        result }
 {
     let Some(command) = read_command(words) else {
         return finish(out, Status::Usage, "usage\n");

@@ -1,4 +1,4 @@
-use Rattle.wallet_top.proofs.NothingSigned.{signs_nothing}
+use Rattle.wallet_top.proofs.Asking.{signs_nothing}
 use Rattle.wallet_top.proofs.laws.signs_nothing.Goals as goal
 
 pub returns : goal.returns
