@@ -6,6 +6,7 @@
 
 #[cfg(test)]
 mod cbor;
+mod clock;
 #[cfg(test)]
 mod forms;
 #[cfg(test)]

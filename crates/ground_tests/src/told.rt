@@ -1,5 +1,5 @@
 // Calls with a text that goes in and a text that comes out.
-use crate::{cbor, forms, json, keys, trees};
+use crate::{cbor, clock, forms, json, keys, trees};
 use std::alloc::Global;
 use std::test::Fail;
 
@@ -40,6 +40,8 @@ pub enum Call {
     KnownKey,
     /// Calls of a device in memory.
     MemoryDevice,
+    /// Calls of a clock of these moments.
+    MemoryClock,
 }
 
 /// What comes out.
@@ -69,6 +71,7 @@ pub fn told(alloc: Global, call: Call, text: &str) -> Result<String, Fail> {
         Call::BenchSignature => keys::bench_signature(alloc, text),
         Call::KnownKey => keys::known(alloc, text),
         Call::MemoryDevice => keys::memory(alloc, text),
+        Call::MemoryClock => clock::moments(alloc, text),
     }
 }
 
