@@ -31,7 +31,7 @@ pub record IsShown (q : CredentialQuery) (s : ℕ) (t : Tree) (found : List Addr
 -- the addresses, each once, in ascending order
 abbrev pub in_order : List Address → List Address
 in_order [] = []
-in_order (a ∷ as) = insert_key address_cmp (in_order as) a
+in_order (x ∷ xs) = insert_key address_cmp (in_order xs) x
 
 -- the addresses that claim set s shows
 abbrev pub shown : CredentialQuery → ℕ → Tree → List Address
