@@ -129,7 +129,8 @@ impl CredentialQuery {
 
     /// The claims that its claim sets are made of: at most 64.
     pub fn claims(&self) -> &[Claim]
-        ensures { result.now ≡ self.now.claims }
+        ensures claims { result.now ≡ self.now.claims }
+        ensures few { length result.now ≤ 64 }
     {
         &self.claims
     }
