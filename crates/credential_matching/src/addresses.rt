@@ -20,7 +20,7 @@ pub fn shown_for<'a, V: ClaimView<'a>>(
 ) -> Result<Vec<Address>, NoMemory>
     requires { set < length query.now.sets }
     ensures exact { IfOk result (λ found. found.items ≡ shown query.now set (V.tree view)) }
-    ensures shown { IfOk result (λ found. IsShown query.now set (V.tree view) found.items) }
+    ensures meaning { IfOk result (λ found. IsShown query.now set (V.tree view) found.items) }
 {
     let mut found = all_hits(alloc, query.claims(), query.set(set), view)?;
     found.sort_unstable();
