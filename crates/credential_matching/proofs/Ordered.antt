@@ -14,7 +14,6 @@ use Rattle.std.proofs.lemmas.List.Sorted.{Contains-permutation, IsPermutation-sy
 use Rattle.std.proofs.lemmas.Map.Lookups.{CmpEqualImpliesEq, exact_bytes, exact_unsigned}
 use Rattle.std.proofs.lemmas.Map.Lookups.{btree_set_from_contains}
 use Rattle.std.proofs.lemmas.Map.Views.{Contains-from_any, list_any-from_Contains, tells_apart}
-use Rattle.claim_names.specs.declared.address.Step.{Step}
 use Rattle.claim_names.specs.declared.address.Step.TheVariants.{Name, Place}
 use Rattle.claim_tree.specs.Order.{step_cmp, address_cmp, address_cmp_total}
 use Rattle.claim_tree.specs.Tree.{Tree}

@@ -1,7 +1,7 @@
-use Rattle.std.proofs.Common.{◌≡◌, ◌∙◌, ap, ap₂, sym, subst}
+use Rattle.std.proofs.Common.{◌∙◌, ap, ap₂, sym, subst}
 use Rattle.std.proofs.lemmas.List.Filters.{dedup_is}
 use Rattle.std.specs.List.{flat_map}
-use Rattle.credential_matching.specs.Shown.{IsShown, hits_at, in_order, shown}
+use Rattle.credential_matching.specs.Shown.{IsShown, hits_at, in_order}
 use Rattle.credential_matching.proofs.Ordered.{dedup-in_order, shown-IsShown}
 use Rattle.credential_matching.proofs.addresses.shown_for.Goals as goal
 
