@@ -136,7 +136,8 @@ has-dedup xs ys x moved = alike (has (dedup same ys) x) (has xs x)
 pub dedup-in_order : (xs ys : List Address) → IsPermutation xs ys → IsSorted address_cmp ys
     → dedup same ys ≡ in_order xs
 dedup-in_order xs ys moved sorted =
-    btree_set_from_contains address_cmp_total (record { keys = dedup same ys }) (record { keys = in_order xs })
+    btree_set_from_contains address_cmp_total (record { keys = dedup same ys })
+    (record { keys = in_order xs })
     (IsStrictlySortedBy-dedup address_cmp_total (λ x y. refl) ys sorted) (in_order-ascends xs)
     (λ x. has-dedup xs ys x moved ∙ sym (has-in_order xs x)) exact_addresses
 
@@ -150,10 +151,11 @@ has-flat_map f (x ∷ xs) a = list_any-append (same a) (f x) (flat_map f xs)
 
 pub in_order-flat_map : {X : Type 0} (f : X → List Address) (xs : List X) (a : Address)
     → Contains (in_order (flat_map f xs)) a ↔ Any (λ x. Contains (f x) a) xs
-in_order-flat_map {X} f xs a = (
+in_order-flat_map f xs a = (
   λ h.
       let any : Any (λ x. has (f x) a ≡ true) xs = Any-from_list_any (λ x. has (f x) a) xs
-      (sym (has-in_order (flat_map f xs) a ∙ has-flat_map f xs a) ∙ has_from (in_order (flat_map f xs)) a h) in
+      (sym (has-in_order (flat_map f xs) a ∙ has-flat_map f xs a)
+      ∙ has_from (in_order (flat_map f xs)) a h) in
       (any.0, any.1, any.2, any.3, from_has (f any.1) a any.4),
   λ h. from_has (in_order (flat_map f xs)) a
       (has-in_order (flat_map f xs) a ∙ has-flat_map f xs a

@@ -1,5 +1,5 @@
--- What a claim set shows of a claim tree: the elements that its claims ask for, and nothing else (OpenID4VP 1.0,
--- sections 6.3, 6.4.1 and 7).
+-- What a claim set shows of a claim tree: the elements that its claims ask for, and nothing else
+-- (OpenID4VP 1.0, sections 6.3, 6.4.1 and 7).
 use Rattle.std.specs.Prelude.{◌↔◌, ℕ, List, [], ◌∷◌}
 use Rattle.std.specs.BTreeSet.{insert_key}
 use Rattle.std.specs.List.{Any, Contains, flat_map, slice_get}

@@ -11,7 +11,8 @@ returns-clause-exact g c =
     dedup_is _ _ _ c.dedup.ensures.filtered
     ∙ dedup-in_order _ _ c.sort_unstable.ensures.permutation c.sort_unstable.ensures.sorted
     ∙ ap in_order c.in_ok-found.ensures
-    ∙ ap₂ (λ claims places. in_order (flat_map (hits_at claims t) places)) c.claims.ensures.claims c.set.ensures
+    ∙ ap₂ (λ claims places. in_order (flat_map (hits_at claims t) places)) c.claims.ensures.claims
+    c.set.ensures
 
 pub returns-clause-meaning : goal.returns-clause-meaning
 returns-clause-meaning g c =
