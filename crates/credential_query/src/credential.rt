@@ -1,8 +1,10 @@
 // What a query asks of one credential.
 ghost use Rattle.std.specs.Prelude.{◌≡◌, ◌<◌, ◌≤◌, true, length};
 ghost use Rattle.std.specs.List.{list_any};
+ghost use Rattle.std.specs.Option.{option_copied};
 ghost use Rattle.std.specs.Str.{bytes_eq};
 ghost use Rattle.dcql_rules.specs.Ids.{is_id};
+ghost use Rattle.credential_query.specs.Claims.{set_at};
 ghost use Rattle.credential_query.specs.Credential.{allows_kind};
 ghost use Rattle.credential_query.specs.WellFormed.{IsCredential};
 
@@ -23,6 +25,22 @@ impl Model for Claim {
     ghost Value = { Meant };
 
     ghost view = { λ c. record { path = c.path; values = c.values } };
+}
+
+impl Claim {
+    /// The path to the elements that are asked for.
+    pub fn path(&self) -> &Path
+        ensures { result.now ≡ self.now.path }
+    {
+        &self.path
+    }
+
+    /// The values of which an element must have one, or none where any will do.
+    pub fn values(&self) -> Option<&Values>
+        ensures { option_copied result ≡ self.now.values }
+    {
+        self.values.as_ref()
+    }
 }
 
 /// What a query asks of one credential.
@@ -99,6 +117,22 @@ impl CredentialQuery {
         ensures well_formed { IsCredential self.now }
     {
         self.sets.len()
+    }
+
+    /// Claim set `set`, as the places of its claims in [`CredentialQuery::claims`].
+    pub fn set(&self, set: usize) -> &[usize]
+        requires { set < length self.now.sets }
+        ensures { result.now ≡ set_at self.now set }
+    {
+        &self.sets[set]
+    }
+
+    /// The claims that its claim sets are made of: at most 64.
+    pub fn claims(&self) -> &[Claim]
+        ensures claims { result.now ≡ self.now.claims }
+        ensures few { length result.now ≤ 64 }
+    {
+        &self.claims
     }
 }
 

@@ -12,5 +12,5 @@ mod read;
 mod read_sets;
 
 pub use claims::claims_met;
-pub use credential::CredentialQuery;
+pub use credential::{Claim, CredentialQuery};
 pub use error::NoMemory;
