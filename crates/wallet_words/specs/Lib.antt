@@ -1,0 +1,5 @@
+pub mod Command
+pub mod Count
+pub mod Laws
+pub mod Parser
+pub mod code
