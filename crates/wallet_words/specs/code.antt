@@ -1,2 +1,3 @@
--- What the types of this crate mean.
+-- What ties the code to the definitions.
 pub mod Commands
+pub mod Parsers

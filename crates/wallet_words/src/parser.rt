@@ -1,15 +1,15 @@
 // The parser of the words.
-ghost use Rattle.std.specs.Prelude.{◌≡◌, IfOk, false};
-ghost use Rattle.clap.specs.Words.{app_of, rule_of};
+ghost use Rattle.std.specs.Prelude.{IfOk};
 ghost use Rattle.wallet_words.specs.Parser.{file, option, try_parser, options_parser, bare_parser};
 ghost use Rattle.wallet_words.specs.Parser.{wallet_parser};
+ghost use Rattle.wallet_words.specs.code.Parsers.{IsArgument, IsParser};
 
 use clap::{Arg, Command};
 use std::alloc::{AllocError, Global};
 
 /// The parser of all commands.
 pub fn wallet_parser<'a>(alloc: Global) -> Result<Command<'a>, AllocError>
-    ensures { IfOk result (λ c. app_of c ≡ wallet_parser) }
+    ensures { IfOk result (λ c. IsParser wallet_parser c) }
 {
     bare_parser(alloc)
         .subcommand(try_parser(alloc)?)?
@@ -17,7 +17,7 @@ pub fn wallet_parser<'a>(alloc: Global) -> Result<Command<'a>, AllocError>
 }
 
 fn bare_parser<'a>(alloc: Global) -> Command<'a>
-    ensures { app_of result ≡ bare_parser }
+    ensures { IsParser bare_parser result }
 {
     Command::new(alloc, "vpwallet")
         .no_binary_name(true)
@@ -28,7 +28,7 @@ fn bare_parser<'a>(alloc: Global) -> Command<'a>
 }
 
 fn try_parser<'a>(alloc: Global) -> Result<Command<'a>, AllocError>
-    ensures { IfOk result (λ c. app_of c ≡ try_parser) }
+    ensures { IfOk result (λ c. IsParser try_parser c) }
 {
     Command::new(alloc, "try")
         .arg(file(alloc, "query"))?
@@ -36,7 +36,7 @@ fn try_parser<'a>(alloc: Global) -> Result<Command<'a>, AllocError>
 }
 
 fn options_parser<'a>(alloc: Global) -> Result<Command<'a>, AllocError>
-    ensures { IfOk result (λ c. app_of c ≡ options_parser) }
+    ensures { IfOk result (λ c. IsParser options_parser c) }
 {
     Command::new(alloc, "options")
         .arg(file(alloc, "request"))?
@@ -47,15 +47,13 @@ fn options_parser<'a>(alloc: Global) -> Result<Command<'a>, AllocError>
 }
 
 fn file<'a>(alloc: Global, name: &'a str) -> Arg<'a>
-    ensures rule { rule_of result ≡ file name.entry.now }
-    ensures local { result.global ≡ false }
+    ensures { IsArgument (file name.entry.now) result }
 {
     Arg::new(alloc, name).required(true)
 }
 
 fn option<'a>(alloc: Global, name: &'a str) -> Arg<'a>
-    ensures rule { rule_of result ≡ option name.entry.now }
-    ensures local { result.global ≡ false }
+    ensures { IsArgument (option name.entry.now) result }
 {
     Arg::new(alloc, name).long(name)
 }
