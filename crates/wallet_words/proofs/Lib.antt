@@ -1,3 +1,4 @@
 mod Commands
 mod Counts
+mod Examples
 mod Parsers

@@ -17,6 +17,6 @@ returns c =
     let same = c.in_ok-parser.ensures.0 in
     elim (c.in-Err.ensures.kinds (free _ same)) [
       | inl memory ↦
-        absurd (grind (arith, common_steps, c.kind.ensures, c.eq.ensures, c.if-eq.false, memory))
+          absurd (grind (arith, common_steps, c.kind.ensures, c.eq.ensures, c.if-eq.false, memory))
       | inr among ↦ sym (untaken _ (map (string_bytes {Z = Global}) c.args.words.now) _ same among)
     ]

@@ -24,12 +24,12 @@ returns-else-count-ge1 c = sym (uncounted c.args.text.now (λ n h.
     let same : c.in-Ok.count ≡ n = cc (found, read) in
     elim c.else-count-ge1.branch [
       | else-count-ge1-via-then-count-ge1+then-count-le-MOST+else-eq w ↦
-        let written = (bytes_eq-Decides w.format.result.now c.args.text.now).1
-            (w.format.ensures.text ∙ ap decimal same ∙ sym h.2) in
-        let test = w.eq.ensures in
-        let other = w.if-eq.false in
-        cc (written, test, other)
+          let written = (bytes_eq-Decides w.format.result.now c.args.text.now).1
+          (w.format.ensures.text ∙ ap decimal same ∙ sym h.2) in
+          let test = w.eq.ensures in
+          let other = w.if-eq.false in
+          cc (written, test, other)
       | else-count-ge1-via-then-count-ge1+else-count-le-MOST w ↦
-        absurd (omega (arith, h.1, same, w.if-count-le-MOST.false))
+          absurd (omega (arith, h.1, same, w.if-count-le-MOST.false))
       | else-count-ge1-via-else-count-ge1 w ↦ absurd (omega (arith, h.0, same, w.if-count-ge1.false))
     ]))
