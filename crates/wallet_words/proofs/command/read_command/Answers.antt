@@ -1,6 +1,5 @@
 use Rattle.std.proofs.Common.{◌∙◌, map, string_bytes, Global, inl, inr, arith, sym}
 use Rattle.std.proofs.lemmas.Grind.{common_steps}
-use Rattle.clap.specs.Words.{app_of}
 use Rattle.wallet_words.proofs.Commands.{free, simple, taken, untaken}
 use Rattle.wallet_words.proofs.command.read_command.Goals as goal
 
