@@ -6,6 +6,8 @@ use itoa::Buffer;
 
 const DEFAULT_COUNT: u32 = 20;
 
+const LEAST: u32 = 1;
+
 const MOST: u32 = 1000;
 
 /// The count that the text says, 20 where there is no text.
@@ -26,7 +28,7 @@ fn read_count(text: &str) -> Option<u32>
         return None;
     };
     let mut buffer = Buffer::new();
-    if count >= 1 && count <= MOST && buffer.format(count) == text {
+    if count >= LEAST && count <= MOST && buffer.format(count) == text {
         Some(count)
     } else {
         None
