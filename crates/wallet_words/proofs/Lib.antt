@@ -1,0 +1,4 @@
+mod Commands
+mod Counts
+mod Examples
+mod Parsers

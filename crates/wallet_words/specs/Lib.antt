@@ -1,0 +1,6 @@
+pub mod Command
+pub mod Count
+pub mod Examples
+pub mod Laws
+pub mod Parser
+pub mod code

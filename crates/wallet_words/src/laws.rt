@@ -1,0 +1,15 @@
+// What holds of the words.
+ghost use Rattle.wallet_words.specs.Examples.{CommandLinesHold, UsageLinesHold, NoWordsAreUsage};
+ghost use Rattle.wallet_words.specs.Laws.{CountsAreDecimals};
+
+/// A count is a decimal number from 1 to 1000 without leading zeros.
+pub fn counts_are_decimals()
+    ensures { CountsAreDecimals }
+{}
+
+/// What some lines of words are, and that no words are no command.
+pub fn examples_hold()
+    ensures commands { CommandLinesHold }
+    ensures usage { UsageLinesHold }
+    ensures none { NoWordsAreUsage }
+{}
