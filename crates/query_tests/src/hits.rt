@@ -13,7 +13,7 @@ use std::rt::HostRuntime;
 use std::test::Fail;
 
 // The hits: the steps of each with a blank after each step, and then a comma.
-fn listed(alloc: Global, found: &[Address]) -> Result<String, Fail> {
+pub(crate) fn listed(alloc: Global, found: &[Address]) -> Result<String, Fail> {
     let mut text = String::new(alloc);
     for address in found {
         for step in address.steps() {

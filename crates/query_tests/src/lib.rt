@@ -1,4 +1,4 @@
-//! Tests of `claim_path` and `dcql_query`, over their public functions alone.
+//! Tests of `claim_path`, `dcql_query` and what claim sets show, over their public functions alone.
 #![tactic(auto)]
 
 #[cfg(test)]
@@ -11,3 +11,5 @@ mod paths;
 mod queries;
 #[cfg(test)]
 mod refusals;
+#[cfg(test)]
+mod shown;
