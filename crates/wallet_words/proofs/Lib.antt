@@ -2,3 +2,4 @@ mod Commands
 mod Counts
 mod Examples
 mod Parsers
+mod PlainWords

@@ -12,4 +12,4 @@ mod parser;
 
 pub use command::{Command, read_command};
 pub use error::NoMemory;
-pub use laws::{counts_are_decimals, examples_hold};
+pub use laws::{counts_are_decimals, examples_hold, plain_words_are_read};
