@@ -1,5 +1,5 @@
 -- A file that was read, and then held what it should or was refused by a line.
-use Rattle.std.proofs.Common.{◌≡◌, ℕ, List, Option, Some, None, Result, Ok, Err, refl, sym, ap, subst}
+use Rattle.std.proofs.Common.{◌≡◌, ℕ, List, Option, Some, None, Result, Ok, refl, sym, ap, subst}
 use Rattle.std.specs.Option.{ok_or}
 use Rattle.base_forms.specs.declared.lines.LineError.{LineError}
 use Rattle.base_forms.specs.declared.lines.LineError.TheVariants.{Refused, NoMemory}

@@ -1,3 +1,2 @@
 mod FileRuns
-mod Slots
 mod Texts

@@ -1,12 +1,11 @@
 -- The text of bytes, without a line feed at its end.
-use Rattle.std.proofs.Common.{◌≡◌, ◌<◌, ◌-◌, ◌+◌, ◌∙◌, ℕ, List, [], ◌∷◌, ◌++◌, Bool, true, false, cond, Option, Some, None}
-use Rattle.std.proofs.Common.{refl, sym, ap, subst, length, take, arith}
+use Rattle.std.proofs.Common.{◌≡◌, ◌<◌, ◌-◌, ◌∙◌, ℕ, List, [], ◌∷◌, ◌++◌, Bool, true, false, cond, Some, None}
+use Rattle.std.proofs.Common.{refl, sym, ap, length, take, arith}
 use Rattle.std.specs.List.{slice_index}
 use Rattle.std.specs.Str.{IsUtf8, is_utf8}
 use Rattle.std.proofs.lemmas.List.{length-append}
 use Rattle.std.proofs.Math.Seq.{get_or-append_seam}
-use Rattle.std.specs.String.{string_bytes}
-use Rattle.std.proofs.lemmas.Str.{IsUtf8-string_bytes, IsUtf8-from_is_utf8, is_utf8-from_IsUtf8}
+use Rattle.std.proofs.lemmas.Str.{IsUtf8-from_is_utf8, is_utf8-from_IsUtf8}
 use Rattle.options_files.specs.Contents.{text_in}
 use Rattle.wallet_files.specs.CredentialFile.{without_feed}
 use Rattle.wallet_files.proofs.Feeds.{feed_is_cut}
@@ -27,19 +26,17 @@ none_of_others bytes none = none_by bytes (is_utf8 bytes) refl none
 
 -- ---- the line feed
 
-last_byte : (front text : List ℕ) → text ≡ front ++ 10 ∷ [] → (0 < length text) × (slice_index text (length text - 1) < 128)
-last_byte front text is = (
-  omega (arith, ap length is, length-append front (10 ∷ [])),
-  omega (
-    arith,
-    ap (λ t. slice_index t (length text - 1)) is
-    ∙ ap (λ n. slice_index (front ++ 10 ∷ []) n) (omega (arith, ap length is, length-append front (10 ∷ [])))
-    ∙ get_or-append_seam front 10 [] 0,
-  ),
-)
+last_byte : (front text : List ℕ) → text ≡ front ++ 10 ∷ []
+    → (0 < length text) × (slice_index text (length text - 1) < 128)
+last_byte front text is =
+    let at : length text - 1 ≡ length front = omega (arith, ap length is, length-append front (10 ∷ [])) in
+    let last = ap (λ t. slice_index t (length text - 1)) is ∙ ap (slice_index (front ++ 10 ∷ [])) at
+    ∙ get_or-append_seam front 10 [] 0 in
+    (omega (arith, ap length is, length-append front (10 ∷ [])), omega (arith, last))
 
 -- its last character is taken off a text of this length that ends in a line feed
-pub feed_is_popped : (text left : List ℕ) (n : ℕ) → n ≡ length text → text ≡ take (length text - 1) text ++ 10 ∷ []
+pub feed_is_popped : (text left : List ℕ) (n : ℕ) → n ≡ length text
+    → text ≡ take (length text - 1) text ++ 10 ∷ []
     → (0 < n → slice_index text (n - 1) < 128 → left ≡ take (n - 1) text) → left ≡ without_feed text
 feed_is_popped text left n long is popped =
     let last = last_byte (take (length text - 1) text) text is in

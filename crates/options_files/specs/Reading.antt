@@ -1,5 +1,5 @@
--- The files from which options are found, as they are read: the request, the clients, the wallet file, and the
--- credential files that it names.
+-- How the files are read from which options are found: the request, the clients, the wallet file, and the
+-- credential files that it names (OpenID4VP 1.0, sections 5 and 5.9).
 use Rattle.std.specs.Prelude.{ℕ, List, Result, Ok, Err, if◌then◌else◌}
 use Rattle.std.specs.Option.{ok_or}
 use Rattle.std.specs.Str.{is_utf8}
@@ -36,7 +36,8 @@ read_clients name = bind (read_file file_limit name) (λ bytes. or_refused name 
 
 -- The file of an entry of the wallet is read.
 abbrev pub read_content : Entry → Tree Outcome Content
-read_content entry = bind (read_file credential_limit entry.file) (λ bytes. gives (content_of entry.format bytes))
+read_content entry = bind (read_file credential_limit entry.file) (λ bytes.
+    gives (content_of entry.format bytes))
 
 -- The wallet file is read, and then the file of each of its entries.
 abbrev pub read_credentials : List ℕ → Tree Outcome (List Content)

@@ -15,8 +15,8 @@ use std::alloc::Global;
 use std::marker::Model;
 use wallet_files::{CREDENTIAL_LIMIT, Entry, read_wallet};
 
-/// What the credential files of a wallet hold, in the order of the wallet file: at most 64. Contracts see it as
-/// the list of that.
+/// What the credential files of a wallet hold, at most 64 of them, in the order of the wallet file. Contracts
+/// see it as a list.
 #[derive(Drop)]
 pub struct CredentialFiles {
     contents: Vec<Content>,

@@ -1,6 +1,6 @@
 // All the files, in their order.
 ghost use Rattle.options_files.specs.Reading.{read_files};
-ghost use Rattle.options_files.specs.code.Meant.{meant_files};
+ghost use Rattle.options_files.specs.code.MeantFiles.{meant_files};
 ghost use Rattle.program_steps.specs.code.Endings.{ending};
 ghost use Rattle.runs.specs.Runs.{Runs};
 ghost use Rattle.runs.specs.World.{World};

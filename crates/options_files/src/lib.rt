@@ -1,8 +1,8 @@
 //! The files from which the options of a wallet for a request are found: the request, the clients that the
 //! wallet knows, the wallet file, and the credential files that it names.
 //!
-//! [`read_files`] reads them, in this order, each within its limit. [`wallet_of`] is the wallet whose slots are
-//! those of the credential files.
+//! [`read_files`] reads them, in this order, each within its limit. [`wallet_of`] is the wallet whose slots
+//! are those of the credential files.
 #![tactic(auto)]
 
 mod clients;

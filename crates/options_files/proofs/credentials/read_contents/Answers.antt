@@ -1,5 +1,5 @@
 use Rattle.std.proofs.Common.{◌++◌, [], ◌∷◌, map, length, refl, ap, ◌∙◌, arith}
-use Rattle.std.proofs.lemmas.List.{length-append}
+use Rattle.std.proofs.lemmas.List.{length-append, map_push}
 use Rattle.std.proofs.lemmas.Result.{err_from_is_err_and}
 use Rattle.program_steps.proofs.Stops.{is_early}
 use Rattle.program_steps.specs.code.Endings.{early}
@@ -8,9 +8,7 @@ use Rattle.runs.proofs.Trees.{runs_out}
 use Rattle.runs.specs.Runs.{out_of_memory}
 use Rattle.options_files.specs.Reading.{read_content}
 use Rattle.options_files.specs.code.Meant.{meant}
-use Rattle.options_files.specs.declared.content.Content as code
 use Rattle.wallet_files.specs.code.Entries.{meant as meant_entry}
-use Rattle.options_files.proofs.Slots.{meant_more}
 use Rattle.options_files.proofs.credentials.read_contents.Goals as goal
 
 pub loop-entry-preserved : goal.loop-entry-preserved
@@ -20,7 +18,7 @@ loop-entry-preserved g c = record {
       (map meant c.loop-entry.contents.items) _ (meant c.in_ok-content.content) _ _ _
       c.loop-entry-test.true c.entry-item.is
       (ap (map meant) c.in_ok-push.ensures.items
-      ∙ meant_more c.loop-entry.contents.items c.in_ok-content.content)
+      ∙ map_push meant c.loop-entry.contents.items c.in_ok-content.content)
       (c.loop-entry.invariant.runs w) (c.in_ok-content.ensures w);
   count = omega (
     arith,

@@ -14,6 +14,6 @@ pub returns-in-Some : goal.returns-in-Some
 returns-in-Some g c = λ w. runs_then _ _ _ _ _ _ _ (c.in_ok-bytes.ensures w)
     (runs_text c.args.name.now _ _ _ (search rules))
 
-pub returns : goal.returns
-returns g c = λ w. runs_then _ _ _ _ _ _ _ (c.in_ok-bytes.ensures w)
+pub returns-in-None : goal.returns-in-None
+returns-in-None g c = λ w. runs_then _ _ _ _ _ _ _ (c.in_ok-bytes.ensures w)
     (runs_no_text c.args.name.now _ c.line_stop.result _ (search rules) c.line_stop.ensures)
