@@ -89,7 +89,7 @@ fn examine_encoded(
 ) -> Result<Finding, AllocError>
     ensures { IfOk result (λ finding. finding ≡ file_finding Format.Mdoc query.now bytes.items) }
 {
-    let decoded = decode(alloc, &bytes)?;
+    let decoded = document_in(alloc, &bytes)?;
     drop(bytes);
     match decoded {
         Some(document) => examine_mdoc(alloc, query, &document),
@@ -97,8 +97,8 @@ fn examine_encoded(
     }
 }
 
-// A text without the line feed at its end, if it has one.
-fn without_feed(text: &str) -> &str
+/// A text without the line feed at its end, if it has one. Takes no memory.
+pub fn without_feed(text: &str) -> &str
     ensures { result.now ≡ without_feed text.now }
 {
     match text.strip_suffix('\n') {
@@ -118,8 +118,13 @@ fn examine_sd_jwt(alloc: Global, query: &CredentialQuery, text: &str) -> Result<
     }
 }
 
-// The bytes that a file's text is the base64url of.
-fn decode(alloc: Global, bytes: &[u8]) -> Result<Option<Vec<u8>>, AllocError>
+/// The mobile document in a credential file with these bytes: the bytes of which its text is the base64url, with
+/// or without one line feed at its end. None where the file is no such text.
+///
+/// # Errors
+///
+/// Out of memory.
+pub fn document_in(alloc: Global, bytes: &[u8]) -> Result<Option<Vec<u8>>, AllocError>
     ensures { IfOk result (λ document. option_map (λ v. v.items) document ≡ document_in bytes.now) }
 {
     let Some(text) = text_of(bytes) else {

@@ -11,8 +11,9 @@ mod query_file;
 mod tree_lines;
 mod wallet;
 
-pub use credential_file::read_credential;
+pub use credential_file::{document_in, read_credential, without_feed};
 pub use finding::Finding;
+pub use limits::CREDENTIAL_LIMIT;
 pub use line_stops::line_stop;
 pub use program_steps::FILE_LIMIT;
 pub use query_file::{only, query_by, query_refusal, read_query};

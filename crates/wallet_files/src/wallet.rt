@@ -1,6 +1,6 @@
 // The wallet file.
-ghost use Rattle.std.specs.Prelude.{◌≡◌, ◌≤◌, ◌<◌, ◌+◌, ◌∷◌, ℕ, List, Some, None, map, IfOk, IfErr};
-ghost use Rattle.std.specs.Prelude.{option_map};
+ghost use Rattle.std.specs.Prelude.{◌≡◌, ◌≤◌, ◌<◌, ◌+◌, ◌∷◌, ℕ, List, Some, None, length, map, IfOk};
+ghost use Rattle.std.specs.Prelude.{IfErr, option_map};
 ghost use Rattle.base_forms.specs.Lines.{lines_of};
 ghost use Rattle.program_steps.specs.code.Endings.{ending};
 ghost use Rattle.runs.specs.Runs.{Runs};
@@ -26,14 +26,15 @@ pub struct Entry {
     pub file: String,
 }
 
-/// The entries of a wallet file.
+/// The entries of a wallet file, of which there are at most 64.
 ///
 /// # Errors
 ///
 /// A refusal of the file; a fault of the store; out of memory.
 pub fn read_wallet<S: Store>(alloc: Global, store: &mut S, name: &str) -> Result<Vec<Entry>, Stop>
-    ensures { (w : World) → Runs (read_wallet name.now) (record w { store = S.state store.old })
+    ensures runs { (w : World) → Runs (read_wallet name.now) (record w { store = S.state store.old })
         (record w { store = S.state store.new }) (ending (λ entries. map meant entries.items) result) }
+    ensures few { IfOk result (λ entries. length entries.items ≤ 64) }
 {
     let bytes = read_file(alloc, store, name, FILE_LIMIT)?;
     match entries_in(alloc, &bytes) {
@@ -46,6 +47,7 @@ pub fn read_wallet<S: Store>(alloc: Global, store: &mut S, name: &str) -> Result
 fn entries_in(alloc: Global, bytes: &[u8]) -> Result<Vec<Entry>, LineError>
     ensures passed { IfOk result (λ _. bad_wallet bytes.now ≡ None) }
     ensures entries { IfOk result (λ entries. map meant entries.items ≡ entries_of (lines_of bytes.now)) }
+    ensures few { IfOk result (λ entries. length entries.items ≤ 64) }
     ensures refused { IfErr result (λ error. IsBadLine (bad_wallet bytes.now) error) }
 {
     match text_of(bytes) {
@@ -57,6 +59,7 @@ fn entries_in(alloc: Global, bytes: &[u8]) -> Result<Vec<Entry>, LineError>
 fn entries(alloc: Global, text: &str) -> Result<Vec<Entry>, LineError>
     ensures lines { IfOk result (λ _. bad_entry 1 (lines_of text.now) ≡ None) }
     ensures entries { IfOk result (λ entries. map meant entries.items ≡ entries_of (lines_of text.now)) }
+    ensures few { IfOk result (λ entries. length entries.items ≤ 64) }
     ensures refused { IfErr result (λ error. IsBadLine (bad_entry 1 (lines_of text.now)) error) }
 {
     let mut entries = Vec::new(alloc);

@@ -11,6 +11,7 @@ invariant-loop-rest l = record {
   entries : map meant l.entries.items ++ entries_of (lines_of l.rest) ≡ entries_of (lines_of l.text);
   bad : bad_entry (l.number + 1) (lines_of l.rest) ≡ bad_entry 1 (lines_of l.text);
   number : l.number ≤ 64;
+  count : length l.entries.items ≡ l.number;
   text : shadow (Utf8 l.rest);
 }
 

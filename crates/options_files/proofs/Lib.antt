@@ -1,0 +1,2 @@
+mod FileRuns
+mod Texts
