@@ -1,7 +1,6 @@
 // What a claim set shows of a claim tree.
 ghost use Rattle.std.specs.Prelude.{◌≡◌, ◌<◌, IfOk, length};
 ghost use Rattle.std.specs.List.{flat_map};
-ghost use Rattle.claim_tree.specs.Tree.{Tree};
 ghost use Rattle.credential_matching.specs.Shown.{hits_at, shown, IsShown};
 
 use claim_path::hits;
