@@ -20,8 +20,8 @@ use sdjwt_hiding::{Hidden, IssuedDisclosure, NoMemory, has_own_digests, hide};
 use std::alloc::{AllocError, Global};
 
 /// Issues the SD-JWT that a spec asks for: the message with a signature of the device by the issuer's key,
-/// and the disclosures in the order of `hide`, each followed by `~`. The device is asked once, exactly where it
-/// holds the key and no two of the disclosures have one digest. The text reads as the credential that was
+/// and the disclosures in the order of `hide`, each followed by `~`. The device is asked once, exactly where
+/// it holds the key and no two of the disclosures have one digest. The text reads as the credential that was
 /// asked, and from then on the device judges its signature yes.
 ///
 /// # Errors

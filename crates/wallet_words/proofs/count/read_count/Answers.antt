@@ -2,7 +2,9 @@ use Rattle.std.proofs.Common.{◌≡◌, ◌∙◌, decimal, arith, ap, sym}
 use Rattle.std.proofs.lemmas.Slice.Eq.{bytes_eq-Decides}
 use Rattle.wallet_words.proofs.Counts.{counted, uncounted, parsed}
 use Rattle.wallet_words.proofs.count.read_count.Goals as goal
-use Rattle.wallet_words.proofs.count.read_count.Goals.{else-count-ge-LEAST-via-then-count-ge-LEAST+then-count-le-MOST+else-eq, else-count-ge-LEAST-via-then-count-ge-LEAST+else-count-le-MOST, else-count-ge-LEAST-via-else-count-ge-LEAST}
+use Rattle.wallet_words.proofs.count.read_count.Goals.{else-count-ge-LEAST-via-else-count-ge-LEAST}
+use Rattle.wallet_words.proofs.count.read_count.Goals.{else-count-ge-LEAST-via-then-count-ge-LEAST+else-count-le-MOST}
+use Rattle.wallet_words.proofs.count.read_count.Goals.{else-count-ge-LEAST-via-then-count-ge-LEAST+then-count-le-MOST+else-eq}
 
 pub returns-in_default : goal.returns-in_default
 returns-in_default c = sym (uncounted c.args.text.now (λ n h.
@@ -31,5 +33,6 @@ returns-else-count-ge-LEAST c = sym (uncounted c.args.text.now (λ n h.
           cc (written, test, other)
       | else-count-ge-LEAST-via-then-count-ge-LEAST+else-count-le-MOST w ↦
           absurd (omega (arith, h.1, same, w.if-count-le-MOST.false))
-      | else-count-ge-LEAST-via-else-count-ge-LEAST w ↦ absurd (omega (arith, h.0, same, w.if-count-ge-LEAST.false))
+      | else-count-ge-LEAST-via-else-count-ge-LEAST w ↦
+          absurd (omega (arith, h.0, same, w.if-count-ge-LEAST.false))
     ]))
