@@ -3,3 +3,4 @@ pub mod Lists
 pub mod Parts
 pub mod Writing
 pub mod Named
+pub mod TokenLaws

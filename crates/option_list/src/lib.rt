@@ -6,6 +6,7 @@
 
 mod entries;
 mod error;
+mod laws;
 mod picks;
 mod read;
 mod write;
@@ -16,5 +17,6 @@ pub use admitted_answers::{
 };
 pub use answered_sets::AnsweredSets;
 pub use error::Error;
+pub use laws::tokens_are_read;
 pub use read::read_token;
 pub use write::token;
