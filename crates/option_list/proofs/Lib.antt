@@ -4,3 +4,5 @@ pub mod Parts
 pub mod Writing
 pub mod Named
 pub mod TokenLaws
+pub mod Readers
+pub mod Decided

@@ -1,14 +1,14 @@
 -- Reading numbers, picks and entries.
-use Rattle.std.proofs.Common.{◌≡◌, ℕ, zero, suc, ◌<◌, true, false, List, [], ◌∷◌, ◌++◌}
+use Rattle.std.proofs.Common.{◌≡◌, ℕ, suc, ◌<◌, true, false, List, [], ◌∷◌, ◌++◌}
 use Rattle.std.proofs.Common.{length, Option}
 use Rattle.std.proofs.Common.{Some, None, refl, sym, ap, ap₂, ◌∙◌, arith, subst, get_or, Bor, lit<, decimal}
 use Rattle.std.proofs.Common.{inl}
 use Rattle.std.proofs.Common.{Result, Ok, Err}
 use Rattle.std.specs.Prelude.{MatchOption}
 use Rattle.std.specs.Str.Parse.{ParsesUnsigned}
-use Rattle.std.proofs.lemmas.Bool.{eq-eqb}
+use Rattle.std.proofs.lemmas.Bool.{eq-eqb, ne_eqb}
 use Rattle.std.proofs.lemmas.Fmt.{parse-decimal, decimal_injective}
-use Rattle.std.proofs.lemmas.Str.Pattern.{IsSplitOnceResult, split_after, split_parts}
+use Rattle.std.proofs.lemmas.Str.Pattern.{IsSplitOnceResult, split_parts}
 use Rattle.dcql_answers.specs.declared.pick.Pick.{Pick}
 use Rattle.dcql_rules.specs.Ids.{is_id}
 use Rattle.option_list.specs.Token.{pick_text, picks_text, Entry, entry_text}
@@ -41,65 +41,63 @@ number_same m n h k e = decimal_injective m n (omega arith) (omega arith) e
 abbrev Halves : Type 0
 Halves = Bor (List ℕ) × Bor (List ℕ)
 
-lacks_at : (c : ℕ) (xs : List ℕ) → Lacks c xs → (i : ℕ) → i < length xs → get_or xs i 0 ≡ c → ⊥
-lacks_at c [] h i low e = absurd (omega arith)
-lacks_at c (x ∷ xs) h zero low e = let f = h.0 in let g = eq-eqb x c e in cc (f, g)
-lacks_at c (x ∷ xs) h (suc i) low e = lacks_at c xs h.1 i (omega arith) e
+-- what stands before the first such byte, and after it
+abbrev pub AreHalves : ℕ → List ℕ → List ℕ → List ℕ → Type 0
+AreHalves c text xs ys = Lacks c xs × (text ≡ xs ++ c ∷ ys)
 
-pub no_halves : (c : ℕ) (text xs ys : List ℕ) (r : Option Halves) → IsSplitOnceResult c text r → c < 128
-    → r ≡ None → Lacks c xs → xs ++ c ∷ ys ≡ text → ⊥
-no_halves c text xs ys r cut low none lacks is =
-    let parts = split_after c text xs ys r cut low (sym is) (lacks_at c xs lacks) in
-    subst (λ o. MatchOption o ⊥ (λ x. (x.0.now ≡ xs) × (x.1.now ≡ ys))) none parts
+lacks_each : (c : ℕ) (xs : List ℕ) → ((i : ℕ) → i < length xs → get_or xs i 0 ≡ c → ⊥) → Lacks c xs
+lacks_each c [] h = tt
+lacks_each c (x ∷ xs) h =
+    (ne_eqb x c (h 0 (omega arith)), lacks_each c xs (λ i low. h (suc i) (omega arith)))
 
-pub halves : (c : ℕ) (text xs ys : List ℕ) (r : Option Halves) (x : Halves) → IsSplitOnceResult c text r
-    → c < 128 → r ≡ Some x → Lacks c xs → xs ++ c ∷ ys ≡ text → (x.0.now ≡ xs) × (x.1.now ≡ ys)
-halves c text xs ys r x cut low some lacks is =
-    let parts = split_after c text xs ys r cut low (sym is) (lacks_at c xs lacks) in
-    subst (λ o. MatchOption o ⊥ (λ x. (x.0.now ≡ xs) × (x.1.now ≡ ys))) some parts
-
-pub whole : (c : ℕ) (text : List ℕ) (r : Option Halves) (x : Halves) → IsSplitOnceResult c text r → c < 128
-    → r ≡ Some x → text ≡ x.0.now ++ c ∷ x.1.now
-whole c text r x cut low some =
-    let parts = split_parts c text r cut low in
-    (subst (λ o. MatchOption o ((i : ℕ) → i < length text → get_or text i 0 ≡ c → ⊥) (λ x.
+pub not_cut : (c : ℕ) (text : List ℕ) (r : Option Halves) → IsSplitOnceResult c text r → c < 128
+    → r ≡ None → Lacks c text
+not_cut c text r cut low none =
+    lacks_each c text (subst (λ o. MatchOption o ((i : ℕ) → i < length text → get_or text i 0 ≡ c → ⊥) (λ x.
     (text ≡ x.0.now ++ c ∷ x.1.now) × ((i : ℕ) → i < length x.0.now → get_or x.0.now i 0 ≡ c → ⊥)))
-    some parts).0
+    none (split_parts c text r cut low))
+
+pub was_cut : (c : ℕ) (text : List ℕ) (r : Option Halves) (x : Halves) → IsSplitOnceResult c text r
+    → c < 128 → r ≡ Some x → AreHalves c text x.0.now x.1.now
+was_cut c text r x cut low some =
+    let parts =
+    subst (λ o. MatchOption o ((i : ℕ) → i < length text → get_or text i 0 ≡ c → ⊥) (λ x.
+    (text ≡ x.0.now ++ c ∷ x.1.now) × ((i : ℕ) → i < length x.0.now → get_or x.0.now i 0 ≡ c → ⊥)))
+    some (split_parts c text r cut low) in
+    (lacks_each c x.0.now parts.1, parts.0)
+
+lacks_itself : (c : ℕ) (xs ys : List ℕ) → Lacks c (xs ++ c ∷ ys) → ⊥
+lacks_itself c [] ys h = let is = eq-eqb c c refl in let f = h.0 in cc (is, f)
+lacks_itself c (x ∷ xs) ys h = lacks_itself c xs ys h.1
+
+uncut : (c : ℕ) (text xs ys : List ℕ) → Lacks c text → xs ++ c ∷ ys ≡ text → ⊥
+uncut c text xs ys lacks is = lacks_itself c xs ys (subst (Lacks c) (sym is) lacks)
 
 -- ---- picks
 
-pub pick_uncut : (text : List ℕ) (r : Option Halves) → IsSplitOnceResult 46 text r → r ≡ None
+pub pick_uncut : (text : List ℕ) → Lacks 46 text → Reads IsSmall pick_text text None
+pick_uncut text lacks = λ p small is. uncut 46 text (decimal p.credential) (decimal p.set) lacks is
+
+pick_halves : (text xs ys : List ℕ) → AreHalves 46 text xs ys → (p : Pick) → IsSmall p → pick_text p ≡ text
+    → (decimal p.credential ≡ xs) × (decimal p.set ≡ ys)
+pick_halves text xs ys cut p small is =
+    same_front 46 (decimal p.credential) xs (decimal p.set) ys
+    (number_lacks 46 (inl (omega arith)) p.credential small.0) cut.0 (is ∙ cut.1)
+
+pub no_credential : (text xs ys : List ℕ) → AreHalves 46 text xs ys
+    → Reads IsSmallNumber decimal xs None → Reads IsSmall pick_text text None
+no_credential text xs ys cut none = λ p small is.
+    none p.credential small.0 (pick_halves text xs ys cut p small is).0
+
+pub no_set : (text xs ys : List ℕ) → AreHalves 46 text xs ys → Reads IsSmallNumber decimal ys None
     → Reads IsSmall pick_text text None
-pick_uncut text r cut none = λ p small is.
-    no_halves 46 text (decimal p.credential) (decimal p.set) r cut (lit< tt) none
-    (number_lacks 46 (inl (omega arith)) p.credential small.0) is
+no_set text xs ys cut none = λ p small is. none p.set small.1 (pick_halves text xs ys cut p small is).1
 
-pick_halves : (text : List ℕ) (r : Option Halves) (x : Halves) → IsSplitOnceResult 46 text r → r ≡ Some x
-    → (p : Pick) → IsSmall p → pick_text p ≡ text
-    → (x.0.now ≡ decimal p.credential) × (x.1.now ≡ decimal p.set)
-pick_halves text r x cut some p small is =
-    halves 46 text (decimal p.credential) (decimal p.set) r x cut (lit< tt) some
-    (number_lacks 46 (inl (omega arith)) p.credential small.0) is
-
-pub no_credential : (text : List ℕ) (r : Option Halves) (x : Halves) → IsSplitOnceResult 46 text r
-    → r ≡ Some x
-    → Reads IsSmallNumber decimal x.0.now None → Reads IsSmall pick_text text None
-no_credential text r x cut some none = λ p small is.
-    let parts = pick_halves text r x cut some p small is in
-    none p.credential small.0 (sym parts.0)
-
-pub no_set : (text : List ℕ) (r : Option Halves) (x : Halves) → IsSplitOnceResult 46 text r → r ≡ Some x
-    → Reads IsSmallNumber decimal x.1.now None → Reads IsSmall pick_text text None
-no_set text r x cut some none = λ p small is.
-    let parts = pick_halves text r x cut some p small is in
-    none p.set small.1 (sym parts.1)
-
-pub one_pick : (text : List ℕ) (r : Option Halves) (x : Halves) (c s : ℕ) → IsSplitOnceResult 46 text r
-    → r ≡ Some x → Reads IsSmallNumber decimal x.0.now (Some c) → Reads IsSmallNumber decimal x.1.now (Some s)
+pub one_pick : (text xs ys : List ℕ) (c s : ℕ) → AreHalves 46 text xs ys
+    → Reads IsSmallNumber decimal xs (Some c) → Reads IsSmallNumber decimal ys (Some s)
     → Reads IsSmall pick_text text (Some (record { credential = c; set = s }))
-one_pick text r x c s cut some first second =
-    let is : text ≡ x.0.now ++ 46 ∷ x.1.now = whole 46 text r x cut (lit< tt) some in
-    ((first.0, second.0), ap₂ (λ a b. a ++ 46 ∷ b) first.1 second.1 ∙ sym is)
+one_pick text xs ys c s cut first second =
+    ((first.0, second.0), ap₂ (λ a b. a ++ 46 ∷ b) first.1 second.1 ∙ sym cut.1)
 
 pick_same : Distinct IsSmall pick_text
 pick_same p r h k e =
@@ -115,37 +113,32 @@ picks_same = joined_same IsSmall pick_text 44 (pick_lacks 44 (inl (omega arith))
 
 -- ---- entries
 
-pub entry_uncut : (text : List ℕ) (r : Option Halves) → IsSplitOnceResult 58 text r → r ≡ None
+pub entry_uncut : (text : List ℕ) → Lacks 58 text → Reads IsEntry entry_text text None
+entry_uncut text lacks = λ e good is. uncut 58 text e.id (picks_text e.picks) lacks is
+
+entry_halves : (text xs ys : List ℕ) → AreHalves 58 text xs ys → (e : Entry) → IsEntry e
+    → entry_text e ≡ text → (e.id ≡ xs) × (picks_text e.picks ≡ ys)
+entry_halves text xs ys cut e good is =
+    same_front 58 e.id xs (picks_text e.picks) ys (id_lacks 58 refl e.id good.0) cut.0 (is ∙ cut.1)
+
+pub no_id : (text xs ys : List ℕ) → AreHalves 58 text xs ys → is_id xs ≡ false
     → Reads IsEntry entry_text text None
-entry_uncut text r cut none = λ e good is.
-    no_halves 58 text e.id (picks_text e.picks) r cut (lit< tt) none (id_lacks 58 refl e.id good.0) is
-
-entry_halves : (text : List ℕ) (r : Option Halves) (x : Halves) → IsSplitOnceResult 58 text r → r ≡ Some x
-    → (e : Entry) → IsEntry e → entry_text e ≡ text → (x.0.now ≡ e.id) × (x.1.now ≡ picks_text e.picks)
-entry_halves text r x cut some e good is =
-    halves 58 text e.id (picks_text e.picks) r x cut (lit< tt) some (id_lacks 58 refl e.id good.0) is
-
-pub no_id : (text : List ℕ) (r : Option Halves) (x : Halves) → IsSplitOnceResult 58 text r → r ≡ Some x
-    → is_id x.0.now ≡ false → Reads IsEntry entry_text text None
-no_id text r x cut some wrong = λ e good is.
-    let parts = entry_halves text r x cut some e good is in
+no_id text xs ys cut wrong = λ e good is.
+    let parts = entry_halves text xs ys cut e good is in
     let right = good.0 in
     let same = ap is_id parts.0 in
     cc (right, same, wrong)
 
-pub no_picks : (text : List ℕ) (r : Option Halves) (x : Halves) → IsSplitOnceResult 58 text r → r ≡ Some x
-    → Reads (IsEach IsSmall) picks_text x.1.now None → Reads IsEntry entry_text text None
-no_picks text r x cut some none = λ e good is.
-    let parts = entry_halves text r x cut some e good is in
-    none e.picks good.1 (sym parts.1)
+pub no_picks : (text xs ys : List ℕ) → AreHalves 58 text xs ys
+    → Reads (IsEach IsSmall) picks_text ys None → Reads IsEntry entry_text text None
+no_picks text xs ys cut none = λ e good is.
+    none e.picks good.1 (entry_halves text xs ys cut e good is).1
 
-pub one_entry : (text : List ℕ) (r : Option Halves) (x : Halves) (ps : List Pick)
-    → IsSplitOnceResult 58 text r
-    → r ≡ Some x → is_id x.0.now ≡ true → Reads (IsEach IsSmall) picks_text x.1.now (Some ps)
-    → Reads IsEntry entry_text text (Some (record { id = x.0.now; picks = ps }))
-one_entry text r x ps cut some right picks =
-    let is : text ≡ x.0.now ++ 58 ∷ x.1.now = whole 58 text r x cut (lit< tt) some in
-    ((right, picks.0), ap (λ b. x.0.now ++ 58 ∷ b) picks.1 ∙ sym is)
+pub one_entry : (text xs ys : List ℕ) (ps : List Pick) → AreHalves 58 text xs ys → is_id xs ≡ true
+    → Reads (IsEach IsSmall) picks_text ys (Some ps)
+    → Reads IsEntry entry_text text (Some (record { id = xs; picks = ps }))
+one_entry text xs ys ps cut right picks =
+    ((right, picks.0), ap (λ b. xs ++ 58 ∷ b) picks.1 ∙ sym cut.1)
 
 pub entry_same : Distinct IsEntry entry_text
 entry_same e f h k is =
