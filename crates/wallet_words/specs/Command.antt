@@ -42,4 +42,5 @@ if_faultless (kind ∷ kinds) command = None
 -- What the crate `clap` finds in the words, where it finds no fault in them. Whether words are taken, and
 -- which word is which, is `clap`'s own definition of what a simple command makes of its words.
 unfoldable pub command_of : List Text → Option Command
-command_of words = if_faultless (fault_of wallet_parser words) (command_in (subcommand_of wallet_parser words))
+command_of words =
+    if_faultless (fault_of wallet_parser words) (command_in (subcommand_of wallet_parser words))
