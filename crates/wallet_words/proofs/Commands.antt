@@ -1,7 +1,7 @@
 -- What the parser finds and the command that the words are.
 use Rattle.std.proofs.Common.{◌≡◌, true, List, [], ◌∷◌, Option, None, ap, refl, sym, ◌∙◌}
-use Rattle.clap.specs.Words.{App, IsAmong, Kinds, Row, Text, fault_of, is_simple, is_simple_and_free}
-use Rattle.clap.specs.Words.{subcommand_of}
+use Rattle.clap.specs.Words.{App, IsAmong, Kinds, Row, Text, fault_of, is_simple}
+use Rattle.clap.specs.Words.{is_simple_and_free, subcommand_of}
 use Rattle.clap.specs.declared.error.kind.ErrorKind.{ErrorKind}
 use Rattle.wallet_words.specs.Command.{Command, command_in, command_of, if_faultless}
 use Rattle.wallet_words.specs.Parser.{wallet_parser}

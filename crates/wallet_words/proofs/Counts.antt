@@ -55,6 +55,5 @@ uncounted text never = go (count_of text) refl
 
 -- a count is parsed as its number
 pub parsed : {E : Type 0} (n : ℕ) (text : List ℕ) (r : Result ℕ E) → IsCount n text
-    → ParsesUnsigned 32 10 text r
-    → r ≡ Ok n
+    → ParsesUnsigned 32 10 text r → r ≡ Ok n
 parsed n text r h parses = parse-decimal 32 n text r (omega (arith, h.1)) (omega (arith, h.1)) h.2 parses

@@ -1,12 +1,11 @@
 -- Plain words after a command's name are its files.
-use Rattle.std.proofs.Common.{◌≡◌, ◌==◌, ◌++◌, ℕ, List, [], ◌∷◌, Option, Some, None, false, true, refl}
-use Rattle.std.proofs.Common.{codes, ap, ap₂, ◌∙◌}
+use Rattle.std.proofs.Common.{◌≡◌, ◌==◌, ◌++◌, ℕ, List, [], ◌∷◌, Option, Some, None, false, true}
+use Rattle.std.proofs.Common.{refl, codes, ap, ap₂, ◌∙◌}
 use Rattle.std.specs.Prelude.{fold, if◌then◌else◌, option_and_then, option_map, unwrap_or, slice_get}
 use Rattle.clap.proofs.OnLiterals.{clap_on_literals}
 use Rattle.clap.specs.Words.{Kinds, Rule, Shape, Text, built}
-use Rattle.clap.specs.Walk.{after_step, Held, Walk, arg_by_index, finished, idle, nothing_held, settled}
-use Rattle.clap.specs.Walk.{to_positional}
-use Rattle.clap.specs.Walk.{value, walked, word_met}
+use Rattle.clap.specs.Walk.{after_step, Held, Walk, arg_by_index, finished}
+use Rattle.clap.specs.Walk.{idle, nothing_held, settled, to_positional, value, walked, word_met}
 use Rattle.clap.specs.Lexer.{short_of, short_of_rest, strip_byte}
 use Rattle.clap.specs.Simple.{names_of}
 use Rattle.clap.specs.Kinds.{or_else}

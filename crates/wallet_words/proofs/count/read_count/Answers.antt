@@ -2,9 +2,6 @@ use Rattle.std.proofs.Common.{◌≡◌, ◌∙◌, decimal, arith, ap, sym}
 use Rattle.std.proofs.lemmas.Slice.Eq.{bytes_eq-Decides}
 use Rattle.wallet_words.proofs.Counts.{counted, uncounted, parsed}
 use Rattle.wallet_words.proofs.count.read_count.Goals as goal
-use Rattle.wallet_words.proofs.count.read_count.Goals.{else-count-ge-LEAST-via-else-count-ge-LEAST}
-use Rattle.wallet_words.proofs.count.read_count.Goals.{else-count-ge-LEAST-via-then-count-ge-LEAST+else-count-le-MOST}
-use Rattle.wallet_words.proofs.count.read_count.Goals.{else-count-ge-LEAST-via-then-count-ge-LEAST+then-count-le-MOST+else-eq}
 
 pub returns-in_default : goal.returns-in_default
 returns-in_default c = sym (uncounted c.args.text.now (λ n h.
@@ -25,14 +22,14 @@ returns-else-count-ge-LEAST c = sym (uncounted c.args.text.now (λ n h.
     let read = c.in-Ok.is in
     let same : c.in-Ok.count ≡ n = cc (found, read) in
     elim c.else-count-ge-LEAST.branch [
-      | else-count-ge-LEAST-via-then-count-ge-LEAST+then-count-le-MOST+else-eq w ↦
+      | goal.else-count-ge-LEAST-via-then-count-ge-LEAST+then-count-le-MOST+else-eq w ↦
           let written = (bytes_eq-Decides w.format.result.now c.args.text.now).1
           (w.format.ensures.text ∙ ap decimal same ∙ sym h.2) in
           let test = w.eq.ensures in
           let other = w.if-eq.false in
           cc (written, test, other)
-      | else-count-ge-LEAST-via-then-count-ge-LEAST+else-count-le-MOST w ↦
+      | goal.else-count-ge-LEAST-via-then-count-ge-LEAST+else-count-le-MOST w ↦
           absurd (omega (arith, h.1, same, w.if-count-le-MOST.false))
-      | else-count-ge-LEAST-via-else-count-ge-LEAST w ↦
+      | goal.else-count-ge-LEAST-via-else-count-ge-LEAST w ↦
           absurd (omega (arith, h.0, same, w.if-count-ge-LEAST.false))
     ]))
