@@ -1,0 +1,5 @@
+pub mod Admitting
+pub mod Deciding
+pub mod FitsListed
+pub mod ListingMade
+pub mod Naming

@@ -1,0 +1,4 @@
+pub mod Holding
+pub mod Admitted
+pub mod Listing
+pub mod Laws
