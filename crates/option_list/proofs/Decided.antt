@@ -1,5 +1,5 @@
 -- An answer is admitted or not, and a text is the token of an admitted answer or breaks a rule.
-use Rattle.std.proofs.Common.{◌≡◌, ℕ, ◌-◌, ◌^◌, ◌<◌, ◌≤◌, ◌⊎◌, inl, inr, Bool, true, false, List, [], ◌∷◌, ◌↔◌}
+use Rattle.std.proofs.Common.{◌≡◌, ℕ, ◌-◌, ◌^◌, ◌<◌, ◌≤◌, ◌⊎◌, inl, inr, Bool, true, false, List, [], ◌∷◌}
 use Rattle.std.proofs.Common.{length, Option, Some, None, refl, sym, subst, ◌∙◌, arith, if◌then◌else◌}
 use Rattle.std.specs.Prelude.{bit_or, bytes_eq}
 use Rattle.std.specs.Bool.{Decides}
@@ -143,8 +143,16 @@ is_decided q fits text well = by (entries text) where
   of_answer es has known (inl (admitted, is)) =
       inl (lists_named q.credentials es, admitted, small_lists q.credentials es has.0.1, is)
   of_answer es has known (inr n) =
-      inr (3, inr (inr (refl, ((es, has, known),
-      none_answers q fits text es (lists_named q.credentials es) well has refl (λ a is. n (a, is))))))
+      inr (
+        3,
+        inr (inr (
+          refl,
+          (
+            (es, has, known),
+            none_answers q fits text es (lists_named q.credentials es) well has refl (λ a is. n (a, is)),
+          ),
+        )),
+      )
 
   of_entries : (es : List Entry) → HasEntries text es → (t : Bool) → are_known q.credentials es ≡ t
       → Named q fits text ⊎ Broken q fits text
@@ -152,7 +160,8 @@ is_decided q fits text well = by (entries text) where
   of_entries es has true known =
       let a = lists_named q.credentials es in
       of_answer es has known
-      (both (is_admitted q fits a) (by_test (bytes_eq (token_of q a) text) (bytes_eq-Decides (token_of q a) text)))
+      (both (is_admitted q fits a)
+      (by_test (bytes_eq (token_of q a) text) (bytes_eq-Decides (token_of q a) text)))
 
   by : Reading (IsEach IsEntry) entries_text text → Named q fits text ⊎ Broken q fits text
   by (None, none) = inr (1, inl (refl, λ es has. none es has.0 has.1))

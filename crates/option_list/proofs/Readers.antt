@@ -1,12 +1,12 @@
 -- What is read of any text: it is of the form, or not.
-use Rattle.std.proofs.Common.{◌≡◌, ℕ, zero, suc, ◌<◌, ◌⊎◌, inl, inr, Bool, true, false, List, [], ◌∷◌, ◌++◌}
-use Rattle.std.proofs.Common.{map, Option, Some, None, refl, sym, ap, ap₂, ◌∙◌, ◌^◌, arith, slice_get, decimal}
+use Rattle.std.proofs.Common.{◌≡◌, ℕ, zero, suc, ◌<◌, ◌⊎◌, inl, inr, Bool, true, false, List, [], ◌∷◌}
+use Rattle.std.proofs.Common.{map, Option, Some, None, refl, sym, ap, ap₂, ◌∙◌, ◌^◌, arith, slice_get}
+use Rattle.std.proofs.Common.{decimal}
 use Rattle.std.specs.Prelude.{◌==◌, bytes_eq}
 use Rattle.std.specs.Bool.{Decides}
 use Rattle.std.specs.List.{AllByRecursion, join_with_byte, slice_split}
 use Rattle.std.proofs.lemmas.Bool.{cases_eq, eqb-true}
 use Rattle.std.proofs.lemmas.Slice.Eq.{bytes_eq-Decides}
-use Rattle.dcql_answers.specs.declared.pick.Pick.{Pick}
 use Rattle.dcql_rules.specs.Ids.{is_id}
 use Rattle.option_list.specs.Token.{pick_text, picks_text, entry_text, entries_text}
 use Rattle.option_list.specs.Form.{IsSmallNumber, IsSmall, IsEach, IsEntry, Reads}

@@ -1,4 +1,4 @@
--- The token of an admitted answer breaks no rule, and a text breaks one rule and names one answer at most.
+-- That a text is the token of one answer at most, or is refused with one number at most.
 use Rattle.std.proofs.Common.{◌≡◌, ℕ, inl, inr, List, refl, sym, ap, ◌∙◌}
 use Rattle.dcql_answers.specs.declared.pick.Pick.{Pick}
 use Rattle.dcql_answers.specs.declared.fits.Fit.{Fit}

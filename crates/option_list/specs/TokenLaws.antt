@@ -13,7 +13,7 @@ abbrev pub NamesNoRule : Type 0
 NamesNoRule = (q : Query) (fits : List Fit) (text : List ℕ) (n : ℕ) (a : List (List Pick)) → IsQuery q
     → Admits q fits a → HasSmallPicks a → token_of q a ≡ text → Breaks q fits text n → ⊥
 
--- a text breaks one rule at most
+-- a text is refused with the number of one rule at most
 abbrev pub OneRule : Type 0
 OneRule = (q : Query) (fits : List Fit) (text : List ℕ) (n m : ℕ) → Breaks q fits text n
     → Breaks q fits text m → n ≡ m
@@ -23,7 +23,7 @@ abbrev pub OneAnswer : Type 0
 OneAnswer = (q : Query) (fits : List Fit) (a b : List (List Pick)) → IsQuery q → Admits q fits a
     → Admits q fits b → HasSmallPicks a → HasSmallPicks b → token_of q a ≡ token_of q b → a ≡ b
 
--- a text is the token of an admitted answer, or breaks a rule
+-- a text is the token of an admitted answer, or is refused with the number of a rule
 abbrev pub IsDecided : Type 0
 IsDecided = (q : Query) (fits : List Fit) (text : List ℕ) → IsQuery q
     → ((a : List (List Pick)) × Admits q fits a × HasSmallPicks a × (token_of q a ≡ text))

@@ -3,4 +3,9 @@ use Rattle.option_list.proofs.Decided.{is_decided}
 use Rattle.option_list.proofs.laws.tokens_are_read.Goals as goal
 
 pub returns : goal.returns
-returns c = record { names = names_no_rule; rule = one_rule; answer = one_answer; decided = is_decided }
+returns c = record {
+  unbroken = names_no_rule;
+  one_rule = one_rule;
+  one_answer = one_answer;
+  decided = is_decided;
+}
