@@ -118,8 +118,8 @@ fn examine_sd_jwt(alloc: Global, query: &CredentialQuery, text: &str) -> Result<
     }
 }
 
-/// The mobile document in a credential file with these bytes: the bytes of which its text is the base64url, with
-/// or without one line feed at its end. None where the file is no such text.
+/// The mobile document in a credential file with these bytes: the bytes of which its text is the base64url,
+/// with or without one line feed at its end. None where the file is no such text.
 ///
 /// # Errors
 ///
