@@ -1,0 +1,17 @@
+//! The text that tells a user the options: notes on the credentials of a wallet that are not offered, and
+//! the answers of a page with what each of them shows.
+//!
+//! [`notes`] gives the notes, [`add_page`] adds the answers.
+#![tactic(auto)]
+
+mod addresses;
+mod answers;
+mod error;
+mod note;
+mod notes;
+mod picks;
+
+pub use answers::add_page;
+pub use error::NoMemory;
+pub use note::{Note, note};
+pub use notes::notes;
