@@ -8,8 +8,8 @@ use Rattle.std.specs.Option.{option_or, option_map_or}
 use Rattle.claim_tree.specs.Credential.{Credential}
 use Rattle.fit_table.specs.Slot.{Stands}
 use Rattle.key_device.specs.Calls.{Held}
-use Rattle.option_texts.specs.declared.note.Note.{Note}
-use Rattle.option_texts.specs.declared.note.Note.TheVariants.{Unreadable, Early, Late, NoKey}
+use Rattle.option_texts.specs.declared.slot_notes.Note.{Note}
+use Rattle.option_texts.specs.declared.slot_notes.Note.TheVariants.{Unreadable, Early, Late, NoKey}
 
 -- ---- which note
 

@@ -7,11 +7,11 @@
 mod addresses;
 mod answers;
 mod error;
-mod note;
-mod notes;
+mod note_lines;
 mod picks;
+mod slot_notes;
 
 pub use answers::add_page;
 pub use error::NoMemory;
-pub use note::{Note, note};
-pub use notes::notes;
+pub use note_lines::notes;
+pub use slot_notes::{Note, note_of};

@@ -4,7 +4,7 @@ ghost use Rattle.fit_table.specs.Wallet.{slots_in};
 ghost use Rattle.option_texts.specs.Notes.{note_line, notes_text};
 
 use crate::error::NoMemory;
-use crate::note::{Note, note};
+use crate::slot_notes::{Note, note_of};
 use fit_table::Wallet;
 use key_device::KeyDevice;
 use std::alloc::{AllocError, Global};
@@ -26,7 +26,7 @@ pub fn notes<K: KeyDevice>(
 {
     let mut text = String::new(alloc);
     for place in 0..wallet.len() {
-        if let Some(note) = note(wallet.slot(place), moment, device) {
+        if let Some(note) = note_of(wallet.slot(place), moment, device) {
             add_note(&mut text, place, note)?;
         }
     }

@@ -23,7 +23,7 @@ pub enum Note {
 
 /// The first note that applies to the slot at this moment, in seconds since 1970-01-01T00:00:00Z, with the
 /// keys that the device holds. A missing key is noted whatever a query asks for. Takes no memory.
-pub fn note<K: KeyDevice>(slot: &Slot<'_>, moment: u64, device: &K) -> Option<Note>
+pub fn note_of<K: KeyDevice>(slot: &Slot<'_>, moment: u64, device: &K) -> Option<Note>
     ensures { result ≡ note_of (K.state device.now).held moment (slot_of slot.now) }
 {
     match slot {
@@ -47,7 +47,7 @@ fn credential_note<K: KeyDevice>(
 }
 
 fn date_note(facts: Facts<'_>, moment: u64) -> Option<Note>
-    ensures { result ≡ date_note facts.first facts.past moment }
+    ensures { result ≡ date_note facts.entry.first facts.entry.past moment }
 {
     if moment < facts.first {
         return Some(Note::Early);
