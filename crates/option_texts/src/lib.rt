@@ -7,11 +7,13 @@
 mod addresses;
 mod answers;
 mod error;
+mod laws;
 mod note_lines;
 mod picks;
 mod slot_notes;
 
 pub use answers::add_page;
 pub use error::NoMemory;
+pub use laws::{notes_are_exact, picks_are_told};
 pub use note_lines::notes;
 pub use slot_notes::{Note, note_of};
