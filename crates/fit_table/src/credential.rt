@@ -1,14 +1,17 @@
 // A credential of either format.
-ghost use Rattle.std.specs.Prelude.{◌↔◌, ◌<◌, length, option_map, IsTrue};
+ghost use Rattle.std.specs.Prelude.{◌≡◌, ◌↔◌, ◌<◌, length, option_map, IfOk, IsTrue};
 ghost use Rattle.credential_matching.specs.Meets.{Describes, Meets};
+ghost use Rattle.credential_matching.specs.Shown.{shown};
 ghost use Rattle.fit_table.specs.Credential.{meaning};
 ghost use Rattle.fit_table.specs.Usable.{NeedsKey, IsHeld, IsUsable};
 
-use claim_tree::{Facts, Format, KeyName};
+use crate::error::NoMemory;
+use claim_tree::{Address, Facts, Format, KeyName};
 use dcql_query::CredentialQuery;
 use key_device::KeyDevice;
 use mdoc_view::MdCredential;
 use sdjwt_view::SdCredential;
+use std::alloc::Global;
 
 /// A credential of either format. It borrows what it was read from.
 #[derive(Drop)]
@@ -45,6 +48,31 @@ impl<'t> Credential<'t> {
         }
     }
 
+    /// The addresses that claim set `set` of the query shows of it: those that its claims hit, each once, in
+    /// ascending order.
+    ///
+    /// # Errors
+    ///
+    /// [`NoMemory`] where it is out of memory.
+    pub fn shown(
+        &self,
+        alloc: Global,
+        query: &CredentialQuery,
+        set: usize,
+    ) -> Result<Vec<Address>, NoMemory>
+        requires { set < length query.now.sets }
+        ensures { IfOk result (λ found. found.items ≡ shown query.now set (meaning self.now).tree) }
+    {
+        match self {
+            Credential::Sd(credential) => {
+                Ok(credential_matching::shown_for(alloc, query, set, credential.root())?)
+            }
+            Credential::Md(credential) => {
+                Ok(credential_matching::shown_for(alloc, query, set, credential.root())?)
+            }
+        }
+    }
+
     /// Whether it may be presented for the query at this moment, in seconds since 1970-01-01T00:00:00Z, by a
     /// holder with this device: it is in date, and the device holds its holder's key where the query asks for
     /// binding or it is a mobile document. Takes no memory.
@@ -52,8 +80,15 @@ impl<'t> Credential<'t> {
         ensures { IsTrue result ↔ IsUsable query.now (K.state device.now).held moment (meaning self.now) }
     {
         let facts = self.facts();
-        facts.is_in_date(moment)
-            && (!needs_key(query, facts.format) || is_held(facts.holder, device))
+        facts.is_in_date(moment) && (!needs_key(query, facts.format) || self.is_held(device))
+    }
+
+    /// Whether the device holds its holder's key. It does not where the credential is bound to no key. Takes
+    /// no memory.
+    pub fn is_held<K: KeyDevice>(&self, device: &K) -> bool
+        ensures { IsTrue result ↔ IsHeld (K.state device.now).held (meaning self.now).holder }
+    {
+        is_held(self.facts().holder, device)
     }
 }
 

@@ -22,3 +22,9 @@ impl From<dcql_answers::NoMemory> for NoMemory {
         NoMemory
     }
 }
+
+impl From<credential_matching::NoMemory> for NoMemory {
+    fn from(_error: credential_matching::NoMemory) -> NoMemory {
+        NoMemory
+    }
+}

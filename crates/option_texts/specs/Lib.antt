@@ -1,0 +1,4 @@
+pub mod Notes
+pub mod Addresses
+pub mod Lines
+pub mod Laws
