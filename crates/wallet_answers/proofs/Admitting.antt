@@ -1,6 +1,6 @@
 -- What is admitted by the fits of a holding, whichever list tells them.
-use Rattle.std.proofs.Common.{◌≡◌, ℕ, ◌+◌, ◌<◌, ◌≤◌, ◌^◌, List, [], ◌∷◌, length, slice_get, Option, Some, None}
-use Rattle.std.proofs.Common.{Ok, Err, refl, sym, inl, inr, arith, zero, suc, ◌↔◌, ◌⊎◌}
+use Rattle.std.proofs.Common.{ℕ, ◌+◌, ◌<◌, ◌≤◌, ◌^◌, List, [], ◌∷◌, length, slice_get, Option, Some, None}
+use Rattle.std.proofs.Common.{Ok, Err, sym, inl, inr, arith, zero, suc}
 use Rattle.std.specs.Prelude.{IsSomeAnd, IsOkAnd}
 use Rattle.std.specs.List.{AllByRecursion, Contains}
 use Rattle.answered_sets.specs.Answered.{IsIn}
@@ -11,7 +11,7 @@ use Rattle.dcql_answers.specs.declared.fits.Fit.{Fit}
 use Rattle.dcql_answers.specs.Answer.{answer_cmp}
 use Rattle.dcql_query.specs.Query.{Credential, Query}
 use Rattle.dcql_query.specs.WellFormed.{IsQuery}
-use Rattle.admitted_answers.specs.Admits.{IsFit as IsAmong, IsPickList, ArePickLists, Admits}
+use Rattle.admitted_answers.specs.Admits.{IsFit as IsAmong, ArePickLists, Admits}
 use Rattle.admitted_answers.specs.Least.{AreFollowing}
 use Rattle.fit_table.specs.Fit.{FitsUnder, IsFit}
 use Rattle.fit_table.specs.Slot.{Stands}

@@ -1,5 +1,5 @@
 -- What is so or is not.
-use Rattle.std.proofs.Common.{◌≡◌, ℕ, ◌<◌, ◌≤◌, Bool, true, false, List, Option, Some, None, Result, Ok, Err}
+use Rattle.std.proofs.Common.{◌≡◌, ℕ, ◌<◌, ◌≤◌, Bool, true, false, Option, Some, None, Result, Ok, Err}
 use Rattle.std.proofs.Common.{refl, inl, inr, arith, ◌⊎◌}
 use Rattle.std.specs.Prelude.{nat_lt, IsSome, IsSomeAnd, IsOkAnd, IfSome}
 use borrow.Author.Tests.{ltb-true, ltb-false}
@@ -15,7 +15,7 @@ both (inr n) q = inr (λ h. n h.0)
 pub either : {P Q : Type 0} → Decided P → Decided Q → Decided (P ⊎ Q)
 either (inl p) q = inl (inl p)
 either (inr n) (inl q) = inl (inr q)
-either (inr n) (inr m) = inr neither where
+either {P = P} {Q = Q} (inr n) (inr m) = inr neither where
   neither : P ⊎ Q → ⊥
   neither (inl p) = n p
   neither (inr q) = m q
@@ -48,8 +48,8 @@ pub is_at_most : (i n : ℕ) → Decided (i ≤ n)
 is_at_most i n = most_at i n (nat_lt n i) refl
 
 pub is_some : {A : Type 0} (o : Option A) → Decided (IsSome o)
-is_some None = inr (λ h. h)
-is_some (Some x) = inl tt
+is_some None = inr (λ h. cc h)
+is_some (Some x) = inl refl
 
 pub is_some_and : {A : Type 0} (P : A → Type 0) (o : Option A) → ((x : A) → Decided (P x))
     → Decided (IsSomeAnd o P)

@@ -1,11 +1,11 @@
 -- There is a list of the fits of a holding.
-use Rattle.std.proofs.Common.{◌≡◌, ℕ, ◌+◌, ◌<◌, ◌≤◌, Bool, true, false, List, length, slice_get, Option, Some}
-use Rattle.std.proofs.Common.{None, Ok, Err, refl, sym, ap, inl, inr, arith, zero, suc, ◌⊎◌}
-use Rattle.std.specs.Prelude.{nat_lt, IsSome, IsSomeAnd, IsOkAnd, IfSome}
-use Rattle.claim_tree.specs.Credential.{Credential, IsInDate}
+use Rattle.std.proofs.Common.{◌≡◌, ℕ, ◌<◌, ◌≤◌, Bool, true, false, List, length, slice_get, Option, Some}
+use Rattle.std.proofs.Common.{None, Ok, Err, refl, ap, inl, inr, arith, zero, suc, ◌⊎◌}
+use Rattle.std.specs.Prelude.{nat_lt, IsSome, IsSomeAnd, IsOkAnd}
+use Rattle.claim_tree.specs.Credential.{Credential}
 use Rattle.claim_tree.specs.declared.facts.Format.{Format}
 use Rattle.claim_tree.specs.declared.facts.Format.TheVariants.{SdJwt, Mdoc}
-use Rattle.credential_matching.specs.Meets.{Allows, Meets}
+use Rattle.credential_matching.specs.Meets.{Meets}
 use Rattle.credential_query.specs.Claims.{claims_met}
 use Rattle.credential_query.specs.Credential.{Credential as CredentialQuery, allows_kind}
 use Rattle.dcql_answers.specs.declared.fits.Fit.{Fit}
@@ -15,7 +15,7 @@ use Rattle.admitted_answers.proofs.Listed.{Listed, listed_like, listed_one, list
 use Rattle.admitted_answers.proofs.Listed.{listed_pairs, listed_where}
 use Rattle.fit_table.specs.Fit.{FitsUnder, IsFit}
 use Rattle.fit_table.specs.Slot.{Stands}
-use Rattle.fit_table.specs.Usable.{NeedsKey, IsHeld, IsUsable}
+use Rattle.fit_table.specs.Usable.{IsUsable}
 use Rattle.fit_table.proofs.AtPlaces.{query_within, slot_within}
 use Rattle.wallet_answers.specs.Holding.{Holding}
 use Rattle.wallet_answers.specs.Admitted.{AreFits}
@@ -40,10 +40,10 @@ meets : (q : CredentialQuery) (s : ℕ) (c : Credential) → Decided (Meets q s 
 meets q s c =
     alike
     (λ h. record {
-      allowed = record { format = h.0; kind = h.1; binding = h.2 };
-      claims = h.3;
+      allowed = record { format = h.0; kind = h.1.0; binding = h.1.1.0 };
+      claims = h.1.1.1;
     })
-    (λ m. (m.allowed.format, m.allowed.kind, m.allowed.binding, m.claims))
+    (λ m. (m.allowed.format, (m.allowed.kind, (m.allowed.binding, m.claims))))
     (both (is_that_format q.format c.format)
     (both (is_true (allows_kind q c.kind))
     (both (implies (is_true q.binding) (is_some c.holder)) (is_true (claims_met q s c.tree)))))
@@ -58,7 +58,7 @@ usable q held now c =
 under : (q : CredentialQuery) (s : ℕ) (held : Held) (now : ℕ) (c : Credential)
     → Decided (FitsUnder q s held now c)
 under q s held now c =
-    alike (λ h. record { set = h.0; meets = h.1; usable = h.2 }) (λ f. (f.set, f.meets, f.usable))
+    alike (λ h. record { set = h.0; meets = h.1.0; usable = h.1.1 }) (λ f. (f.set, (f.meets, f.usable)))
     (both (is_less s (length q.sets)) (both (meets q s c) (usable q held now c)))
 
 fits : (q : Query) (h : Holding) (f : Fit) → Decided (IsFit q h.slots h.held h.now f)
@@ -91,7 +91,7 @@ listed_below (suc n) =
       back i h = by i (nat_lt i n) refl h
 
 -- how many claim sets a credential query has
-sets_of : Option CredentialQuery → ℕ
+abbrev sets_of : Option CredentialQuery → ℕ
 sets_of None = 0
 sets_of (Some q) = length q.sets
 

@@ -3,3 +3,4 @@ pub mod Deciding
 pub mod FitsListed
 pub mod ListingMade
 pub mod Naming
+pub mod Paging

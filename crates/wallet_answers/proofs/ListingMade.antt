@@ -1,14 +1,12 @@
 -- There is a listing.
-use Rattle.std.proofs.Common.{◌≡◌, ℕ, ◌<◌, Bool, true, false, List, [], ◌∷◌, Option, Some, None, Result, Ok}
+use Rattle.std.proofs.Common.{◌≡◌, ℕ, Bool, true, false, List, [], ◌∷◌, Option, Some, None, Result, Ok}
 use Rattle.std.proofs.Common.{Err, refl, subst, inl, inr, ◌⊎◌}
 use Rattle.std.specs.Prelude.{bytes_eq}
 use Rattle.std.specs.List.{AllByRecursion}
 use Rattle.std.proofs.lemmas.Slice.Eq.{bytes_eq-Decides}
 use Rattle.answered_sets.specs.Answered.{IsIn}
 use Rattle.dcql_answers.specs.declared.pick.Pick.{Pick}
-use Rattle.dcql_answers.specs.declared.fits.Fit.{Fit}
 use Rattle.dcql_query.specs.Query.{Query}
-use Rattle.admitted_answers.specs.Admits.{Admits}
 use Rattle.admitted_answers.proofs.AllAnswers.{following}
 use Rattle.option_list.specs.code.Entries.{are_known}
 use Rattle.option_list.specs.Form.{IsSmall}
@@ -18,7 +16,7 @@ use Rattle.option_list.specs.Form.{IsEach, IsEntry}
 use Rattle.option_list.specs.Token.{entries_text}
 use Rattle.option_list.proofs.Readers.{Reading, entries}
 use Rattle.wallet_answers.specs.Holding.{Holding}
-use Rattle.wallet_answers.specs.Admitted.{Answer, AreFits, Admitted, AreAllAfter, IsTokenOf, Names}
+use Rattle.wallet_answers.specs.Admitted.{Answer, AreAllAfter, IsTokenOf, Names}
 use Rattle.wallet_answers.specs.Listing.{Listing}
 use Rattle.wallet_answers.proofs.Admitting.{admits_by}
 use Rattle.wallet_answers.proofs.Deciding.{Decided, both, is_less, is_true, alike}
@@ -74,7 +72,15 @@ form text = by (entries text) where
   by (None, none) = inr (λ es has. none es has.0 has.1)
 
 -- where no admitted answer has this token
-unnamed_among : (q : Query) (h : Holding) (text : List ℕ) (all : List Answer) → AreAllAfter q h None all
+unnamed : (q : Query) (h : Holding) (text : List ℕ) → ((a : Answer) → ¬ IsTokenOf q h text a)
+    → ((es : List Entry) × HasEntries text es) ⊎ HasNoForm text → (r : Result Answer ℕ) × Names q h text r
+unnamed q h text none (inr no_form) = (Err 1, inl (refl, no_form))
+unnamed q h text none (inl (es, has)) = by (are_known q.credentials es) refl where
+  by : (t : Bool) → are_known q.credentials es ≡ t → (r : Result Answer ℕ) × Names q h text r
+  by true known = (Err 3, inr (inr (refl, ((es, has, known), none))))
+  by false unknown = (Err 2, inr (inl (refl, (es, has, unknown))))
+
+named_among : (q : Query) (h : Holding) (text : List ℕ) (all : List Answer) → AreAllAfter q h None all
     → ((a : Answer) × IsIn a all × HasToken q text a) ⊎ ((a : Answer) → IsIn a all → HasToken q text a → ⊥)
     → (r : Result Answer ℕ) × Names q h text r
 named_among q h text all are (inl (a, is, has)) =

@@ -1,6 +1,6 @@
 -- A listing names by a token what a reader of tokens reads.
 use Rattle.std.proofs.Common.{◌≡◌, ◌∙◌, ℕ, List, Result, Ok, Err, sym, ap}
-use Rattle.std.proofs.Common.{inl, inr, ◌⊎◌}
+use Rattle.std.proofs.Common.{inl, inr}
 use Rattle.dcql_answers.specs.declared.fits.Fit.{Fit}
 use Rattle.dcql_query.specs.Query.{Query}
 use Rattle.dcql_query.specs.WellFormed.{IsQuery}
@@ -18,7 +18,7 @@ breaks_by : (q : Query) (h : Holding) (fits : List Fit) (text : List ℕ) (n : �
     → BreaksRule q h text n → Breaks q fits text n
 breaks_by q h fits text n are (inl form) = inl form
 breaks_by q h fits text n are (inr (inl id)) = inr (inl id)
-breaks_by q h fits text n are (inr (inr (is, known, none))) =
+breaks_by q h fits text n are (inr (inr (is, (known, none)))) =
     inr (inr (
       is,
       (

@@ -39,7 +39,7 @@ pub record IsTokenOf (q : Query) (h : Holding) (text : List ℕ) (a : Answer) : 
 abbrev pub BreaksRule : Query → Holding → List ℕ → ℕ → Type 0
 BreaksRule q h text n = ((n ≡ 1) × HasNoForm text)
     ⊎ ((n ≡ 2) × HasUnknownId q text)
-    ⊎ ((n ≡ 3) × HasKnownIds q text × ((a : Answer) → ¬ IsTokenOf q h text a))
+    ⊎ ((n ≡ 3) × (HasKnownIds q text × ((a : Answer) → ¬ IsTokenOf q h text a)))
 
 -- The text names this answer, or breaks this rule.
 abbrev pub Names : Query → Holding → List ℕ → Result Answer ℕ → Type 0

@@ -1,6 +1,7 @@
 -- The admitted answers as lists, and the pages that are cut from them.
-use Rattle.std.specs.Prelude.{◌≡◌, ℕ, nat_le, List, length, take, Bool, Option, Some, None, Result, Ok, Err}
-use Rattle.std.specs.Result.{result_map}
+use Rattle.std.specs.Prelude.{◌≡◌, ℕ, nat_le, List, length, take, Bool, Option, Some, None, Result, Ok}
+use Rattle.std.specs.Prelude.{Err, ⊤}
+use Rattle.std.specs.Result.{result_map_both}
 use Rattle.dcql_query.specs.Query.{Query}
 use Rattle.option_list.specs.declared.error.Error.{Error}
 use Rattle.option_list.specs.declared.error.Error.TheVariants.{Refused, NoMemory}
@@ -27,12 +28,12 @@ cut count all = record { answers = take count all; end = nat_le (length all) cou
 -- breaks
 abbrev pub start_of : Listing → Query → Holding → Option (List ℕ) → Result (Option Answer) ℕ
 start_of listing q h None = Ok None
-start_of listing q h (Some token) = result_map (λ a. Some a) (listing.named q h token)
+start_of listing q h (Some token) = result_map_both (λ a. Some a) (λ n. n) (listing.named q h token)
 
 -- the page of so many answers after a token, or from the first on
 abbrev pub page_of : Listing → Query → Holding → Option (List ℕ) → ℕ → Result Page ℕ
 page_of listing q h after count =
-    result_map (λ start. cut count (listing.following q h start)) (start_of listing q h after)
+    result_map_both (λ start. cut count (listing.following q h start)) (λ n. n) (start_of listing q h after)
 
 -- There is none, for the reason that the error tells, or memory ran out.
 abbrev pub IsRefusedBy : Result Page ℕ → Error → Type 0

@@ -1,5 +1,6 @@
 // Pages of what a wallet can answer.
 ghost use Rattle.std.specs.Prelude.{◌≡◌, ◌<◌, ◌≤◌, length, IfOk, IfErr, Ok, option_map};
+ghost use Rattle.dcql_query.specs.WellFormed.{IsQuery};
 ghost use Rattle.wallet_answers.specs.Admitted.{AreFits};
 ghost use Rattle.wallet_answers.specs.Holding.{Holding};
 ghost use Rattle.wallet_answers.specs.Listing.{Listing, Page, IsRefusedBy, page_of};
@@ -26,10 +27,10 @@ pub fn page_after(
 ) -> Result<OptionPage, Error>
     requires some { 0 < count }
     requires few { count ≤ 1000 }
-    ensures page { (listing : Listing) (h : Holding) → AreFits query.now h fits.now → length h.slots ≤ 64
+    ensures page { (listing : Listing) (h : Holding) → IsQuery query.now → AreFits query.now h fits.now → length h.slots ≤ 64
         → IfOk result (λ p. page_of listing query.now h (option_map (λ token. token.now) after.entry) count
         ≡ Ok (record { answers = p.answers; end = p.end })) }
-    ensures refused { (listing : Listing) (h : Holding) → AreFits query.now h fits.now → length h.slots ≤ 64
+    ensures refused { (listing : Listing) (h : Holding) → IsQuery query.now → AreFits query.now h fits.now → length h.slots ≤ 64
         → IfErr result (λ error.
         IsRefusedBy (page_of listing query.now h (option_map (λ token. token.now) after.entry) count) error) }
 {
