@@ -47,8 +47,12 @@ note_text NoKey = codes "no-key"
 abbrev pub note_line : ℕ → Note → List ℕ
 note_line number note = codes "note " ++ (decimal number ++ (codes " " ++ (note_text note ++ codes "\n")))
 
+-- of the slot with this number, if there is a note on it
+abbrev pub slot_line : ℕ → Option Note → List ℕ
+slot_line number note = option_map_or (note_line number) note []
+
 -- for slots of which the first has this number
 abbrev pub notes_text : Held → ℕ → ℕ → List Stands → List ℕ
 notes_text held now number [] = []
 notes_text held now number (slot ∷ slots) =
-    option_map_or (note_line number) (note_of held now slot) [] ++ notes_text held now (number + 1) slots
+    slot_line number (note_of held now slot) ++ notes_text held now (number + 1) slots
