@@ -1,5 +1,5 @@
 -- What is told of the answers of a page.
-use Rattle.std.proofs.Common.{◌≡◌, ◌<◌, ℕ, suc, ◌+◌, List, [], ◌∷◌, Option, Some, None, Ok, Err, true, length, slice_get}
+use Rattle.std.proofs.Common.{◌≡◌, ℕ, suc, ◌+◌, List, [], ◌∷◌, Option, Some, None, Ok, Err, true, length, slice_get}
 use Rattle.std.proofs.Common.{inl, inr, nat_lt, IsSome, IsSomeAnd, IsOkAnd, Contains, if◌then◌else◌, refl, sym, ap, subst, arith}
 use Rattle.std.specs.List.{AllByRecursion}
 use Rattle.std.specs.Option.{option_and_then}
@@ -7,7 +7,6 @@ use Rattle.answered_sets.specs.Answered.{IsIn}
 use Rattle.admitted_answers.specs.Admits as admitted
 use Rattle.admitted_answers.specs.Admits.{ArePickLists}
 use Rattle.admitted_answers.proofs.NextAnswer.{length_admitted}
-use Rattle.dcql_answers.specs.Fits.{pick_of}
 use Rattle.dcql_answers.specs.declared.fits.Fit.{Fit}
 use Rattle.dcql_answers.specs.declared.pick.Pick.{Pick}
 use Rattle.dcql_query.specs.Query.{Query}
@@ -20,9 +19,10 @@ use Rattle.option_texts.specs.Lines.{picked, read_in}
 
 pub pages_have_lists : PagesHaveLists
 pages_have_lists query fits after [] next = tt
-pages_have_lists query fits after (a ∷ answers) next =
-    (length_admitted fits 0 query.credentials a next.0.is.0.lists
-    , pages_have_lists query fits (Some a) answers next.1)
+pages_have_lists query fits after (a ∷ answers) next = (
+  length_admitted fits 0 query.credentials a next.0.is.0.lists,
+  pages_have_lists query fits (Some a) answers next.1,
+)
 
 contained : {A : Type 0} (x : A) (ys : List A) → IsIn x ys → Contains ys x
 contained x [] is = absurd is
@@ -51,7 +51,6 @@ pick_told query slots held now i q p here fits =
 
 module _ (query : Query) (slots : List Stands) (held : Held) (now : ℕ) (fits : List Fit)
     (is : (fit : Fit) → Contains fits fit → IsFit query slots held now fit) where
-
   picks_told : (i : ℕ) (q : CredentialQuery) → slice_get query.credentials i ≡ Some q → (ps : List Pick)
       → AllByRecursion (admitted.IsFit fits i) ps → AllByRecursion (λ p. IsSome (picked slots q p)) ps
   picks_told i q here [] all = tt
@@ -68,7 +67,7 @@ module _ (query : Query) (slots : List Stands) (held : Held) (now : ℕ) (fits :
       let first : i + 0 ≡ i = omega arith in
       let here = subst (λ n. slice_get query.credentials n ≡ Some q) first (at 0) in
       let later = λ (k : ℕ). let next : i + suc k ≡ i + 1 + k = omega arith in
-          subst (λ n. slice_get query.credentials n ≡ slice_get qs k) next (at (suc k)) in
+      subst (λ n. slice_get query.credentials n ≡ slice_get qs k) next (at (suc k)) in
       (picks_told i q here ps lists.0.fit, lists_told (i + 1) qs a later lists.1)
 
 pub admitted_are_picked : AdmittedArePicked

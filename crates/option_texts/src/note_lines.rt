@@ -26,7 +26,11 @@ pub fn notes<K: KeyDevice>(
 {
     let mut text = String::new(alloc);
     for place in 0..wallet.len() {
-        add_note(&mut text, place, note_of(wallet.slot(place), moment, device))?;
+        add_note(
+            &mut text,
+            place,
+            note_of(wallet.slot(place), moment, device),
+        )?;
     }
     Ok(text)
 }

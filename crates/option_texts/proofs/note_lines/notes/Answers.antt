@@ -1,7 +1,7 @@
 use Rattle.std.proofs.Common.{◌+◌, ◌++◌, drop, string_bytes, sym, ap, ◌∙◌}
 use Rattle.fit_table.specs.Slot.{slot_of}
 use Rattle.fit_table.specs.Wallet.{slots_in}
-use Rattle.option_texts.specs.Notes.{slot_line, note_of, notes_text}
+use Rattle.option_texts.specs.Notes.{slot_line, notes_text}
 use Rattle.option_texts.proofs.Adding.{left_at, added}
 use Rattle.option_texts.proofs.note_lines.notes.Goals as goal
 
