@@ -1,6 +1,7 @@
 -- What is told of the answers of a page.
-use Rattle.std.proofs.Common.{◌≡◌, ℕ, suc, ◌+◌, List, [], ◌∷◌, Option, Some, None, Ok, Err, true, length, slice_get}
-use Rattle.std.proofs.Common.{inl, inr, nat_lt, IsSome, IsSomeAnd, IsOkAnd, Contains, if◌then◌else◌, refl, sym, ap, subst, arith}
+use Rattle.std.proofs.Common.{◌≡◌, ℕ, suc, ◌+◌, List, [], ◌∷◌, Option, Some, None, Ok, Err, true, length}
+use Rattle.std.proofs.Common.{slice_get, inl, inr, nat_lt, IsSome, IsSomeAnd, IsOkAnd, Contains}
+use Rattle.std.proofs.Common.{if◌then◌else◌, refl, sym, ap, subst, arith}
 use Rattle.std.specs.List.{AllByRecursion}
 use Rattle.std.specs.Option.{option_and_then}
 use Rattle.answered_sets.specs.Answered.{IsIn}
@@ -40,7 +41,8 @@ slot_told q held now set (Some (Ok c)) fits =
     let within : nat_lt set (length q.sets) ≡ true = grind (arith, fits.set) in
     rw within refl
 
-pick_told : (query : Query) (slots : List Stands) (held : Held) (now : ℕ) (i : ℕ) (q : CredentialQuery) (p : Pick)
+pick_told : (query : Query) (slots : List Stands) (held : Held) (now : ℕ) (i : ℕ) (q : CredentialQuery)
+    (p : Pick)
     → slice_get query.credentials i ≡ Some q
     → IsFit query slots held now (record { query = i; credential = p.credential; set = p.set })
     → IsSome (picked slots q p)
@@ -55,7 +57,8 @@ module _ (query : Query) (slots : List Stands) (held : Held) (now : ℕ) (fits :
       → AllByRecursion (admitted.IsFit fits i) ps → AllByRecursion (λ p. IsSome (picked slots q p)) ps
   picks_told i q here [] all = tt
   picks_told i q here (p ∷ ps) all =
-      (pick_told query slots held now i q p here (is _ (contained _ fits all.0)), picks_told i q here ps all.1)
+      let one = pick_told query slots held now i q p here (is _ (contained _ fits all.0)) in
+      (one, picks_told i q here ps all.1)
 
   -- the first list is for the credential query at place i
   lists_told : (i : ℕ) (qs : List CredentialQuery) (a : List (List Pick))

@@ -39,7 +39,8 @@ ArePicked slots [] a = ⊤
 ArePicked slots (q ∷ qs) [] = ⊤
 ArePicked slots (q ∷ qs) (ps ∷ a) = AllByRecursion (λ p. IsSome (picked slots q p)) ps × ArePicked slots qs a
 
--- So does each pick of an admitted answer, where the fits are those of the wallet. None of its picks is left out.
+-- So does each pick of an admitted answer, where the fits are those of the wallet. None of its picks is left
+-- out.
 abbrev pub AdmittedArePicked : Type 0
 AdmittedArePicked = (query : Query) (slots : List Stands) (held : Held) (now : ℕ) (fits : List Fit)
     (answer : List (List Pick))

@@ -1,6 +1,6 @@
 -- The notes on the credentials of a wallet: why one is not offered. It was not read, it is not valid at the
--- moment (RFC 7519, sections 4.1.4 and 4.1.5; ISO/IEC 18013-5, section 9.1.2.4), or the key that it is bound to
--- is not held. The lines are a text of this product's own.
+-- moment (RFC 7519, sections 4.1.4 and 4.1.5; ISO/IEC 18013-5, section 9.1.2.4), or the key that it is bound
+-- to is not held. The lines are a text of this product's own.
 use Rattle.std.specs.Prelude.{ℕ, ◌+◌, nat_lt, nat_le, Bool, false, List, [], ◌∷◌, ◌++◌, Option, Some, None}
 use Rattle.std.specs.Prelude.{if◌then◌else◌, Ok, Err, is_some, codes}
 use Rattle.std.specs.Fmt.{decimal}

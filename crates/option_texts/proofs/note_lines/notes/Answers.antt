@@ -12,8 +12,8 @@ loop-place-preserved g c =
     let slots = slots_in c.args.wallet.now in
     let place = c.loop-place.place in
     let here = left_at slots place (slot_of c.slot.result.now) c.slot.ensures in
-    added text (string_bytes c.add_note.new.text) (slot_line place c.note_of.result) (told (place + 1)
-    (drop (place + 1) slots)) (told 0 slots)
-    (ap (λ note. text ++ (slot_line place note ++ told (place + 1) (drop (place + 1) slots))) c.note_of.ensures
-    ∙ (ap (λ rest. text ++ told place rest) (sym here) ∙ c.loop-place.invariant))
-    c.in_ok-add_note.ensures
+    let rest = told (place + 1) (drop (place + 1) slots) in
+    let noted = ap (λ note. text ++ (slot_line place note ++ rest)) c.note_of.ensures in
+    let before = ap (λ left. text ++ told place left) (sym here) ∙ c.loop-place.invariant in
+    added text (string_bytes c.add_note.new.text) (slot_line place c.note_of.result) rest (told 0 slots)
+    (noted ∙ before) c.in_ok-add_note.ensures
