@@ -1,5 +1,5 @@
--- The addresses of what is shown, as a user sees them: a line for each, with the address as a JSON list (RFC 8259)
--- as a claims path pointer has them (OpenID4VP 1.0, section 7).
+-- The addresses of what is shown, as a user sees them: a line for each, with the address as a JSON list (RFC
+-- 8259), as a claims path pointer (OpenID4VP 1.0, section 7) names the same claim.
 use Rattle.std.specs.Prelude.{List, map, ◌++◌, ℕ, codes}
 use Rattle.serde_json.specs.Data.{Data, array, number, string, unsigned}
 use Rattle.serde_json.specs.View.{items_of}

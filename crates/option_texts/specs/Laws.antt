@@ -1,14 +1,14 @@
 -- What holds of the text of options.
-use Rattle.std.specs.Prelude.{◌≡◌, ◌⊎◌, ◌↔◌, ℕ, List, Option, Some, None, Ok, IsSome, IsSomeAnd, slice_get}
-use Rattle.std.specs.List.{AllByRecursion}
+use Rattle.std.specs.Prelude.{◌≡◌, ◌⊎◌, ◌↔◌, ℕ, List, [], ◌∷◌, Option, Some, None, Ok, IsSome, ⊤}
+use Rattle.std.specs.List.{AllByRecursion, Contains}
 use Rattle.admitted_answers.specs.Admits.{Admits}
 use Rattle.admitted_answers.specs.Least.{AreNext}
 use Rattle.claim_tree.specs.Credential.{Credential, IsInDate}
 use Rattle.dcql_answers.specs.Answer.{answer_cmp}
-use Rattle.dcql_answers.specs.Fits.{pick_of}
 use Rattle.dcql_answers.specs.declared.fits.Fit.{Fit}
 use Rattle.dcql_answers.specs.declared.pick.Pick.{Pick}
 use Rattle.dcql_query.specs.Query.{Query}
+use Rattle.dcql_query.specs.Query.{Credential as CredentialQuery}
 use Rattle.fit_table.specs.Fit.{IsFit}
 use Rattle.fit_table.specs.Slot.{Stands}
 use Rattle.fit_table.specs.Usable.{IsHeld}
@@ -27,14 +27,22 @@ abbrev pub UsableIsNotNoted : Type 0
 UsableIsNotNoted = (held : Held) (now : ℕ) (c : Credential)
     → (note_of held now (Ok c) ≡ None) ↔ (IsInDate c now × IsHeld held c.holder)
 
--- What a pick names that fits is there, so its lines are printed.
-abbrev pub FitsAreTold : Type 0
-FitsAreTold = (query : Query) (slots : List Stands) (held : Held) (now : ℕ) (fit : Fit)
-    → IsFit query slots held now fit
-    → IsSomeAnd (slice_get query.credentials fit.query) (λ q. IsSome (picked slots q (pick_of fit)))
-
 -- Each answer of a page of admitted answers has a list of picks for each credential query.
 abbrev pub PagesHaveLists : Type 0
 PagesHaveLists = (query : Query) (fits : List Fit) (after : Option (List (List Pick)))
     (answers : List (List (List Pick)))
     → AreNext (Admits query fits) answer_cmp after answers → AllByRecursion (HasLists query) answers
+
+-- each pick names a credential that was read and a claim set of its credential query
+abbrev pub ArePicked : List Stands → List CredentialQuery → List (List Pick) → Type 0
+ArePicked slots [] a = ⊤
+ArePicked slots (q ∷ qs) [] = ⊤
+ArePicked slots (q ∷ qs) (ps ∷ a) = AllByRecursion (λ p. IsSome (picked slots q p)) ps × ArePicked slots qs a
+
+-- So does each pick of an admitted answer, where the fits are those of the wallet. None of its picks is left
+-- out.
+abbrev pub AdmittedArePicked : Type 0
+AdmittedArePicked = (query : Query) (slots : List Stands) (held : Held) (now : ℕ) (fits : List Fit)
+    (answer : List (List Pick))
+    → ((fit : Fit) → Contains fits fit → IsFit query slots held now fit)
+    → Admits query fits answer → ArePicked slots query.credentials answer

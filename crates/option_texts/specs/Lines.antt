@@ -1,5 +1,5 @@
--- The answers of a page as a user sees them: for each answer its token, for each of its picks the credential, and
--- for each pick what it shows (OpenID4VP 1.0, section 6). The lines are a text of this product's own.
+-- The answers of a page as a user sees them: for each answer its token, for each of its picks the credential,
+-- and for each pick what it shows (OpenID4VP 1.0, section 6). The lines are a text of this product's own.
 use Rattle.std.specs.Prelude.{◌≡◌, ℕ, nat_lt, Bool, true, false, List, [], ◌∷◌, ◌++◌, length, slice_get}
 use Rattle.std.specs.Prelude.{Option, Some, None, Ok, Err, if◌then◌else◌, codes}
 use Rattle.std.specs.Fmt.{decimal}

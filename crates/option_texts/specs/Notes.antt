@@ -1,6 +1,6 @@
 -- The notes on the credentials of a wallet: why one is not offered. It was not read, it is not valid at the
--- moment (RFC 7519, sections 4.1.4 and 4.1.5; ISO/IEC 18013-5, section 9.1.2.4), or the key that it is bound to
--- is not held. The lines are a text of this product's own.
+-- moment (RFC 7519, sections 4.1.4 and 4.1.5; ISO/IEC 18013-5, section 9.1.2.4), or the key that it is bound
+-- to is not held. The lines are a text of this product's own.
 use Rattle.std.specs.Prelude.{ℕ, ◌+◌, nat_lt, nat_le, Bool, false, List, [], ◌∷◌, ◌++◌, Option, Some, None}
 use Rattle.std.specs.Prelude.{if◌then◌else◌, Ok, Err, is_some, codes}
 use Rattle.std.specs.Fmt.{decimal}
@@ -47,8 +47,12 @@ note_text NoKey = codes "no-key"
 abbrev pub note_line : ℕ → Note → List ℕ
 note_line number note = codes "note " ++ (decimal number ++ (codes " " ++ (note_text note ++ codes "\n")))
 
+-- of the slot with this number, if there is a note on it
+abbrev pub slot_line : ℕ → Option Note → List ℕ
+slot_line number note = option_map_or (note_line number) note []
+
 -- for slots of which the first has this number
 abbrev pub notes_text : Held → ℕ → ℕ → List Stands → List ℕ
 notes_text held now number [] = []
 notes_text held now number (slot ∷ slots) =
-    option_map_or (note_line number) (note_of held now slot) [] ++ notes_text held now (number + 1) slots
+    slot_line number (note_of held now slot) ++ notes_text held now (number + 1) slots

@@ -1,7 +1,7 @@
 // The lines of the notes.
 ghost use Rattle.std.specs.Prelude.{◌≡◌, ◌++◌, IfOk, string_bytes};
 ghost use Rattle.fit_table.specs.Wallet.{slots_in};
-ghost use Rattle.option_texts.specs.Notes.{note_line, notes_text};
+ghost use Rattle.option_texts.specs.Notes.{slot_line, notes_text};
 
 use crate::error::NoMemory;
 use crate::slot_notes::{Note, note_of};
@@ -26,21 +26,24 @@ pub fn notes<K: KeyDevice>(
 {
     let mut text = String::new(alloc);
     for place in 0..wallet.len() {
-        if let Some(note) = note_of(wallet.slot(place), moment, device) {
-            add_note(&mut text, place, note)?;
-        }
+        add_note(
+            &mut text,
+            place,
+            note_of(wallet.slot(place), moment, device),
+        )?;
     }
     Ok(text)
 }
 
-// Adds the line of a note on the slot at this place.
-fn add_note(text: &mut String, place: usize, note: Note) -> Result<(), AllocError>
-    ensures { IfOk result (λ _. string_bytes text.new ≡ string_bytes text.old ++ note_line place note) }
+// Adds the line of the slot at this place, if there is a note on it.
+fn add_note(text: &mut String, place: usize, note: Option<Note>) -> Result<(), AllocError>
+    ensures { IfOk result (λ _. string_bytes text.new ≡ string_bytes text.old ++ slot_line place note) }
 {
     match note {
-        Note::Unreadable(rule) => write!(text, "note {place} unreadable {rule}\n"),
-        Note::Early => write!(text, "note {place} early\n"),
-        Note::Late => write!(text, "note {place} late\n"),
-        Note::NoKey => write!(text, "note {place} no-key\n"),
+        Some(Note::Unreadable(rule)) => write!(text, "note {place} unreadable {rule}\n"),
+        Some(Note::Early) => write!(text, "note {place} early\n"),
+        Some(Note::Late) => write!(text, "note {place} late\n"),
+        Some(Note::NoKey) => write!(text, "note {place} no-key\n"),
+        None => Ok(()),
     }
 }

@@ -1,5 +1,5 @@
-use Rattle.option_texts.proofs.Told.{pages_have_lists}
+use Rattle.option_texts.proofs.Told.{pages_have_lists, admitted_are_picked}
 use Rattle.option_texts.proofs.laws.picks_are_told.Goals as goal
 
-pub returns-clause-lists : goal.returns-clause-lists
-returns-clause-lists c = pages_have_lists
+pub returns : goal.returns
+returns c = record { lists = pages_have_lists; picked = admitted_are_picked }
