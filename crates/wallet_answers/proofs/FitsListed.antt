@@ -20,8 +20,9 @@ use Rattle.fit_table.proofs.AtPlaces.{query_within, slot_within}
 use Rattle.wallet_answers.specs.Holding.{Holding}
 use Rattle.wallet_answers.specs.Admitted.{AreFits}
 use Rattle.wallet_answers.proofs.Admitting.{in_from, contains_from}
-use Rattle.wallet_answers.proofs.Deciding.{Decided, both, either, implies, alike, is_true, is_less, is_at_most}
-use Rattle.wallet_answers.proofs.Deciding.{is_some, is_some_and, if_some, is_ok_and, answer, when_true, then_true}
+use Rattle.wallet_answers.proofs.Deciding.{Decided, both, either, implies, alike, is_true, is_less}
+use Rattle.wallet_answers.proofs.Deciding.{is_at_most, is_some, is_some_and, if_some, is_ok_and, answer}
+use Rattle.wallet_answers.proofs.Deciding.{when_true, then_true}
 use borrow.Author.Tests.{ltb-true, ltb-false}
 
 -- ---- whether three places are a fit
@@ -152,9 +153,14 @@ listed_fits q h =
     (λ f both. when_true (fits q h f) both.1) (λ f is. (places q h f is, then_true (fits q h f) is))
     (listed_where (λ f. answer (fits q h f)) (Places q h) (listed_triples q h))
 
+same_fits : (q : Query) (h : Holding) (listed : Listed (IsFit q h.slots h.held h.now))
+    → AreFits q h listed.all
+same_fits q h listed f = (
+  λ is. listed.only f (in_from listed.all f is),
+  λ is. contains_from listed.all f (listed.here f is),
+)
+
 pub fits_of : (q : Query) (h : Holding) → (fits : List Fit) × AreFits q h fits
 fits_of q h =
-    let listed = listed_fits q h in (
-      listed.all,
-      λ f. (λ is. listed.only f (in_from listed.all f is), λ is. contains_from listed.all f (listed.here f is)),
-    )
+    let listed = listed_fits q h in
+    (listed.all, same_fits q h listed)

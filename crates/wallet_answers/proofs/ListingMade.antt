@@ -24,7 +24,8 @@ use Rattle.wallet_answers.proofs.FitsListed.{fits_of}
 
 -- ---- what follows
 
-all_after : (q : Query) (h : Holding) (start : Option Answer) → (all : List Answer) × AreAllAfter q h start all
+all_after : (q : Query) (h : Holding) (start : Option Answer)
+    → (all : List Answer) × AreAllAfter q h start all
 all_after q h start =
     let fits = fits_of q h in
     let all = following q fits.0 start in (
@@ -60,7 +61,8 @@ has_small [] = inl tt
 has_small (ps ∷ a) = both (are_small ps) (has_small a)
 
 is_text : (s t : List ℕ) → Decided (s ≡ t)
-is_text s t = alike (λ e. (bytes_eq-Decides s t).0 e) (λ e. (bytes_eq-Decides s t).1 e) (is_true (bytes_eq s t))
+is_text s t =
+    alike (λ e. (bytes_eq-Decides s t).0 e) (λ e. (bytes_eq-Decides s t).1 e) (is_true (bytes_eq s t))
 
 abbrev HasToken : Query → List ℕ → Answer → Type 0
 HasToken q text a = HasSmallPicks a × (token_of q a ≡ text)

@@ -39,8 +39,8 @@ answer_at q h fits text a well are admits small token (Err n) names =
     absurd (names_no_rule q fits text n a well admits small token (breaks_by q h fits text n are names))
 
 -- the answer that has the token
-pub answer_named : (listing : Listing) (q : Query) (h : Holding) (fits : List Fit) (text : List ℕ) (a : Answer)
-    → IsQuery q → AreFits q h fits → Admits q fits a → HasSmallPicks a → token_of q a ≡ text
+pub answer_named : (listing : Listing) (q : Query) (h : Holding) (fits : List Fit) (text : List ℕ)
+    (a : Answer) → IsQuery q → AreFits q h fits → Admits q fits a → HasSmallPicks a → token_of q a ≡ text
     → listing.named q h text ≡ Ok a
 answer_named listing q h fits text a well are admits small token =
     answer_at q h fits text a well are admits small token (listing.named q h text)

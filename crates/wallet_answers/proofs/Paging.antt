@@ -1,5 +1,6 @@
 -- A page of answers is the one that a listing has.
-use Rattle.std.proofs.Common.{◌≡◌, ◌∙◌, ℕ, ◌≤◌, Bool, true, false, List, length, take, Option, Some, None, Result}
+use Rattle.std.proofs.Common.{◌≡◌, ◌∙◌, ℕ, ◌≤◌, Bool, true, false, List, length, take, Option, Some, None}
+use Rattle.std.proofs.Common.{Result}
 use Rattle.std.proofs.Common.{Ok, Err, refl, sym, ap, ap₂, subst, ◌↔◌}
 use Rattle.std.specs.Prelude.{nat_le}
 use Rattle.std.specs.Prelude.{IfErr, IsErrAnd}
@@ -28,11 +29,13 @@ test_is false n m false is iff = refl
 
 -- the answers are a front of all that follow, and the end is where no more do
 abbrev IsFront : Query → List Fit → Option Answer → ℕ → List Answer → Bool → Type 0
-IsFront q fits start count answers end = (all : List Answer) → AreFollowing (Admits q fits) answer_cmp start all
+IsFront q fits start count answers end =
+    (all : List Answer) → AreFollowing (Admits q fits) answer_cmp start all
     → (answers ≡ take count all) × ((end ≡ true) ↔ (length all ≤ count))
 
-pub cut_is : (listing : Listing) (q : Query) (h : Holding) (fits : List Fit) (start : Option Answer) (count : ℕ)
-    (answers : List Answer) (end : Bool) → AreFits q h fits → IsFront q fits start count answers end
+pub cut_is : (listing : Listing) (q : Query) (h : Holding) (fits : List Fit) (start : Option Answer)
+    (count : ℕ) (answers : List Answer) (end : Bool) → AreFits q h fits
+    → IsFront q fits start count answers end
     → cut count (listing.following q h start) ≡ record { answers = answers; end = end }
 cut_is listing q h fits start count answers end are front =
     let all = listing.following q h start in

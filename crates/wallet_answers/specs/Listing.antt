@@ -11,7 +11,8 @@ use Rattle.wallet_answers.specs.Admitted.{Answer, AreAllAfter, Names}
 -- What follows each answer, and what each text names.
 pub record Listing : Type 0 where
   pub following : Query → Holding → Option Answer → List Answer
-  pub in_order : (q : Query) (h : Holding) (start : Option Answer) → AreAllAfter q h start (following q h start)
+  pub in_order : (q : Query) (h : Holding) (start : Option Answer)
+      → AreAllAfter q h start (following q h start)
   pub named : Query → Holding → List ℕ → Result Answer ℕ
   pub by_rules : (q : Query) (h : Holding) (text : List ℕ) → Names q h text (named q h text)
 

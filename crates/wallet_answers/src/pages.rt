@@ -1,7 +1,6 @@
 // Pages of what a wallet can answer.
-ghost use Rattle.std.specs.Prelude.{◌≡◌, ◌<◌, ◌≤◌, length, IfOk, IfErr, Ok, option_map};
-ghost use Rattle.dcql_query.specs.WellFormed.{IsQuery};
-ghost use Rattle.wallet_answers.specs.Admitted.{AreFits};
+ghost use Rattle.std.specs.Prelude.{◌≡◌, ◌<◌, ◌≤◌, IfOk, IfErr, Ok, option_map};
+ghost use Rattle.wallet_answers.specs.Admitted.{IsHeldBy};
 ghost use Rattle.wallet_answers.specs.Holding.{Holding};
 ghost use Rattle.wallet_answers.specs.Listing.{Listing, Page, IsRefusedBy, page_of};
 
@@ -12,8 +11,8 @@ use option_list::{Error, OptionPage, read_token};
 use std::alloc::Global;
 
 /// The admitted answers after the one that has the token `after`, or from the first on, in their order, as
-/// many as there are up to `count`, which is from 1 to 1,000. The fits are those that [`fit_table::fill`] gave
-/// for a wallet, which has at most 64 slots.
+/// many as there are up to `count`, which is from 1 to 1,000. The fits are those that [`fit_table::fill`]
+/// gives for a wallet, which has at most 64 slots.
 ///
 /// # Errors
 ///
@@ -27,12 +26,12 @@ pub fn page_after(
 ) -> Result<OptionPage, Error>
     requires some { 0 < count }
     requires few { count ≤ 1000 }
-    ensures page { (listing : Listing) (h : Holding) → IsQuery query.now → AreFits query.now h fits.now → length h.slots ≤ 64
-        → IfOk result (λ p. page_of listing query.now h (option_map (λ token. token.now) after.entry) count
+    ensures page { (listing : Listing) (h : Holding) → IsHeldBy h query.now fits.now → IfOk result (λ p.
+        page_of listing query.now h (option_map (λ token. token.now) after.entry) count
         ≡ Ok (record { answers = p.answers; end = p.end })) }
-    ensures refused { (listing : Listing) (h : Holding) → IsQuery query.now → AreFits query.now h fits.now → length h.slots ≤ 64
-        → IfErr result (λ error.
-        IsRefusedBy (page_of listing query.now h (option_map (λ token. token.now) after.entry) count) error) }
+    ensures refused { (listing : Listing) (h : Holding) → IsHeldBy h query.now fits.now
+        → IfErr result (λ error. IsRefusedBy
+        (page_of listing query.now h (option_map (λ token. token.now) after.entry) count) error) }
 {
     match after {
         Some(token) => {

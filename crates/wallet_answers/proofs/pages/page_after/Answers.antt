@@ -2,29 +2,30 @@ use Rattle.wallet_answers.proofs.Paging.{token_page, first_page, refused_page, h
 use Rattle.wallet_answers.proofs.pages.page_after.Goals as goal
 
 pub returns-in_err-start-in-Some-clause-refused : goal.returns-in_err-start-in-Some-clause-refused
-returns-in_err-start-in-Some-clause-refused c = λ listing h well are few.
+returns-in_err-start-in-Some-clause-refused c = λ listing h held.
     rw c.in-Some.is
-    (handed_on _ _ c.in_err-start-in-Some.field-0.0 c.from_residual.ensures.1 (refused_page listing c.args.query.now h c.args.fits.now c.in-Some.token.now c.args.count
-    c.in_err-start-in-Some.field-0.0 well are c.in_err-start-in-Some.ensures.refused))
+    (handed_on _ _ c.in_err-start-in-Some.field-0.0 c.from_residual.ensures.1
+    (refused_page listing c.args.query.now h c.args.fits.now c.in-Some.token.now c.args.count
+    c.in_err-start-in-Some.field-0.0 held.query held.are_fits c.in_err-start-in-Some.ensures.refused))
 
 pub returns-in_err-page-in-Some-clause-refused : goal.returns-in_err-page-in-Some-clause-refused
-returns-in_err-page-in-Some-clause-refused c = λ listing h well are few.
+returns-in_err-page-in-Some-clause-refused c = λ listing h held.
     no_memory _ _ c.from_residual-in_err-page-in-Some.ensures.1
 
 pub returns-in_err-page-in-None-clause-refused : goal.returns-in_err-page-in-None-clause-refused
-returns-in_err-page-in-None-clause-refused c = λ listing h well are few.
+returns-in_err-page-in-None-clause-refused c = λ listing h held.
     no_memory _ _ c.from_residual-in_err-page-in-None.ensures.1
 
 pub returns-in_ok-page-in-Some-clause-page : goal.returns-in_ok-page-in-Some-clause-page
-returns-in_ok-page-in-Some-clause-page c = λ listing h well are few.
+returns-in_ok-page-in-Some-clause-page c = λ listing h held.
     rw c.in-Some.is
     (token_page listing c.args.query.now h c.args.fits.now c.in-Some.token.now c.args.count
-    c.in_ok-start-in-Some.start c.in_ok-page-in-Some.field-0.answers c.in_ok-page-in-Some.field-0.end well are
-    few c.in_ok-start-in-Some.ensures.admitted c.in_ok-start-in-Some.ensures.token
-    c.in_ok-page-in-Some.ensures.following)
+    c.in_ok-start-in-Some.start c.in_ok-page-in-Some.field-0.answers c.in_ok-page-in-Some.field-0.end
+    held.query held.are_fits held.few c.in_ok-start-in-Some.ensures.admitted
+    c.in_ok-start-in-Some.ensures.token c.in_ok-page-in-Some.ensures.following)
 
 pub returns-in_ok-page-in-None-clause-page : goal.returns-in_ok-page-in-None-clause-page
-returns-in_ok-page-in-None-clause-page c = λ listing h well are few.
+returns-in_ok-page-in-None-clause-page c = λ listing h held.
     rw c.in-None.is
     (first_page listing c.args.query.now h c.args.fits.now c.args.count c.in_ok-page-in-None.field-0.answers
-    c.in_ok-page-in-None.field-0.end are c.in_ok-page-in-None.ensures.following)
+    c.in_ok-page-in-None.field-0.end held.are_fits c.in_ok-page-in-None.ensures.following)
