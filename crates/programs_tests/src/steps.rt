@@ -25,6 +25,7 @@ fn file_text(
         }
         Err(Stop::Failed(Fault::Read)) => Ok(String::from_str(alloc, "read fault")?),
         Err(Stop::Failed(Fault::Device)) => Ok(String::from_str(alloc, "device fault")?),
+        Err(Stop::Failed(Fault::Clock)) => Ok(String::from_str(alloc, "clock fault")?),
         Err(Stop::Failed(Fault::Write)) => Ok(String::from_str(alloc, "write fault")?),
         Err(Stop::NoMemory) => Err(AllocError)?,
     }
