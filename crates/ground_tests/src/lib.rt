@@ -1,5 +1,5 @@
-//! Tests of `outside`, `base_forms`, `json_forms`, `claim_tree`, `cbor_core`, `key_device` and `bench_device`, over
-//! their public functions alone.
+//! Tests of `outside`, `base_forms`, `json_forms`, `claim_tree`, `cbor_core`, `key_device` and
+//! `bench_device`, over their public functions alone.
 //!
 //! A row of most tables is a call, the text that goes in and the text that comes out (`told.rt`).
 #![tactic(auto)]

@@ -148,6 +148,8 @@ fn closes(rt: HostRuntime) -> Result<(), Fail> {
     assert!(rt; is_closed(alloc, Err(device), Status::DeviceFault, b"device fault\n")?);
     let unsigned = Stop::from(SignError::NoMemory);
     assert!(rt; is_closed(alloc, Err(unsigned), Status::NoMemory, b"")?);
+    let clock = Stop::Failed(Fault::Clock);
+    assert!(rt; is_closed(alloc, Err(clock), Status::ClockFault, b"clock fault\n")?);
     let write = Stop::Failed(Fault::Write);
     assert!(rt; is_closed(alloc, Err(write), Status::WriteFault, b"")?);
     assert!(rt; is_closed(alloc, Err(Stop::NoMemory), Status::NoMemory, b"")?);
