@@ -121,7 +121,7 @@ small_named (e ∷ es) id h = by (bytes_eq id e.id) (small_named es id h.1) wher
   by true rest = h.0.1.1
   by false rest = rest
 
-small_lists : (qs : List Credential) (es : List Entry) → AllByRecursion IsEntry es
+pub small_lists : (qs : List Credential) (es : List Entry) → AllByRecursion IsEntry es
     → HasSmallPicks (lists_named qs es)
 small_lists [] es h = tt
 small_lists (q ∷ qs) es h = (small_named es q.id h, small_lists qs es h)

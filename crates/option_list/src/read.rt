@@ -1,6 +1,7 @@
 // Reading the token of an answer.
 ghost use Rattle.std.specs.Prelude.{◌≡◌, ◌↔◌, map, length, IfOk, IfErr, IsTrue, List};
 ghost use Rattle.dcql_answers.specs.declared.pick.Pick.{Pick};
+ghost use Rattle.dcql_query.specs.WellFormed.{IsQuery};
 ghost use Rattle.admitted_answers.specs.Admits.{Admits};
 ghost use Rattle.option_list.specs.Token.{token_of};
 ghost use Rattle.option_list.specs.Rules.{HasSmallPicks, IsRefused, IsReadAs};
@@ -27,6 +28,8 @@ pub fn read_token(alloc: Global, query: &Query, fits: &Fits, text: &str) -> Resu
     ensures refused { IfErr result (λ e. IsRefused query.now fits.now text.now e) }
     ensures back { (a : List (List Pick)) → Admits query.now fits.now a → HasSmallPicks a →
         token_of query.now a ≡ text.now → IsReadAs result a }
+    ensures small { IfOk result HasSmallPicks }
+    ensures well_formed { IsQuery query.now }
 {
     let queries = query.credentials();
     let Some(entries) = read_entries(alloc, text)? else {

@@ -1,7 +1,8 @@
 -- A page of answers is the one that a listing has.
 use Rattle.std.proofs.Common.{◌≡◌, ◌∙◌, ℕ, ◌≤◌, Bool, true, false, List, length, take, Option, Some, None}
-use Rattle.std.proofs.Common.{Result}
+use Rattle.std.proofs.Common.{Result, [], ◌∷◌}
 use Rattle.std.proofs.Common.{Ok, Err, refl, sym, ap, ap₂, subst, ◌↔◌}
+use Rattle.std.specs.List.{AllByRecursion}
 use Rattle.std.specs.Prelude.{nat_le}
 use Rattle.std.specs.Prelude.{IfErr, IsErrAnd}
 use Rattle.std.specs.Result.{result_map_both}
@@ -11,15 +12,15 @@ use Rattle.dcql_answers.specs.Answer.{answer_cmp}
 use Rattle.dcql_query.specs.Query.{Query}
 use Rattle.dcql_query.specs.WellFormed.{IsQuery}
 use Rattle.admitted_answers.specs.Admits.{Admits}
-use Rattle.admitted_answers.specs.Least.{AreFollowing}
+use Rattle.admitted_answers.specs.Least.{AreFollowing, AreNext}
 use Rattle.option_list.specs.declared.error.Error.{Error}
 use Rattle.option_list.specs.declared.error.Error.TheVariants.{Refused, NoMemory}
-use Rattle.option_list.specs.Rules.{IsRefused}
+use Rattle.option_list.specs.Rules.{IsRefused, HasSmallPicks}
 use Rattle.option_list.specs.Token.{token_of}
 use Rattle.wallet_answers.specs.Holding.{Holding}
 use Rattle.wallet_answers.specs.Admitted.{Answer, AreFits}
 use Rattle.wallet_answers.specs.Listing.{Listing, Page, cut, page_of, IsRefusedBy}
-use Rattle.wallet_answers.proofs.Admitting.{following_by, small_by}
+use Rattle.wallet_answers.proofs.Admitting.{following_by}
 use Rattle.wallet_answers.proofs.Naming.{answer_named, rule_named}
 
 test_is : (b : Bool) (n m : ℕ) (t : Bool) → nat_le n m ≡ t → (b ≡ true) ↔ (n ≤ m) → t ≡ b
@@ -49,12 +50,12 @@ page_by listing q h count named =
     (result_map_both (λ a. Some a) (λ n. n) named)
 
 pub token_page : (listing : Listing) (q : Query) (h : Holding) (fits : List Fit) (text : List ℕ) (count : ℕ)
-    (a : Answer) (answers : List Answer) (end : Bool) → IsQuery q → AreFits q h fits → length h.slots ≤ 64
+    (a : Answer) (answers : List Answer) (end : Bool) → IsQuery q → AreFits q h fits → HasSmallPicks a
     → Admits q fits a → token_of q a ≡ text → IsFront q fits (Some a) count answers end
     → page_of listing q h (Some text) count ≡ Ok (record { answers = answers; end = end })
-token_page listing q h fits text count a answers end well are few admits is front =
+token_page listing q h fits text count a answers end well are small admits is front =
     ap (page_by listing q h count)
-    (answer_named listing q h fits text a well are admits (small_by q h fits well few are a admits) is)
+    (answer_named listing q h fits text a well are admits small is)
     ∙ ap (λ (p : Page). Ok p) (cut_is listing q h fits (Some a) count answers end are front)
 
 pub first_page : (listing : Listing) (q : Query) (h : Holding) (fits : List Fit) (count : ℕ)
@@ -81,3 +82,9 @@ pub no_memory : {T : Type 0} (page : Result Page ℕ) (r : Result T Error) → I
     → IfErr r (IsRefusedBy page)
 no_memory page (Ok v) is = absurd is
 no_memory page (Err e) is = rw is tt
+
+-- answers each of which is the next one are admitted
+pub all_admitted : (q : Query) (fits : List Fit) (start : Option Answer) (answers : List Answer)
+    → AreNext (Admits q fits) answer_cmp start answers → AllByRecursion (Admits q fits) answers
+all_admitted q fits start [] next = tt
+all_admitted q fits start (a ∷ answers) next = (next.0.is.0, all_admitted q fits (Some a) answers next.1)

@@ -1,12 +1,11 @@
 -- The answers that a query admits of what a holder has, and what a token says of them (OpenID4VP 1.0,
 -- sections 6.1, 6.4.1 and 6.4.2).
-use Rattle.std.specs.Prelude.{◌≡◌, ◌↔◌, ℕ, ◌≤◌, ◌⊎◌, List, length, Result, Ok, Err, Option}
+use Rattle.std.specs.Prelude.{◌≡◌, ◌↔◌, ℕ, ◌⊎◌, List, Result, Ok, Err, Option}
 use Rattle.std.specs.List.{Contains}
 use Rattle.dcql_answers.specs.declared.pick.Pick.{Pick}
 use Rattle.dcql_answers.specs.declared.fits.Fit.{Fit}
 use Rattle.dcql_answers.specs.Answer.{answer_cmp}
 use Rattle.dcql_query.specs.Query.{Query}
-use Rattle.dcql_query.specs.WellFormed.{IsQuery}
 use Rattle.admitted_answers.specs.Admits.{Admits}
 use Rattle.admitted_answers.specs.Least.{AreFollowing}
 use Rattle.fit_table.specs.Fit.{IsFit}
@@ -20,12 +19,6 @@ Answer = List (List Pick)
 -- These are the fits: which credential that can be used meets which credential query under which claim set.
 abbrev pub AreFits : Query → Holding → List Fit → Type 0
 AreFits q h fits = (fit : Fit) → Contains fits fit ↔ IsFit q h.slots h.held h.now fit
-
--- The query is one that was read, these are its fits, and the wallet has as many slots as a wallet may have.
-pub record IsHeldBy (h : Holding) (q : Query) (fits : List Fit) : Type 0 where
-  pub query : IsQuery q
-  pub are_fits : AreFits q h fits
-  pub few : length h.slots ≤ 64
 
 -- The query admits the answer, by the fits.
 abbrev pub Admitted : Query → Holding → Answer → Type 0

@@ -1,6 +1,8 @@
 // Pages of what a wallet can answer.
 ghost use Rattle.std.specs.Prelude.{◌≡◌, ◌<◌, ◌≤◌, IfOk, IfErr, Ok, option_map};
-ghost use Rattle.wallet_answers.specs.Admitted.{IsHeldBy};
+ghost use Rattle.std.specs.List.{AllByRecursion};
+ghost use Rattle.admitted_answers.specs.Admits.{Admits};
+ghost use Rattle.wallet_answers.specs.Admitted.{AreFits};
 ghost use Rattle.wallet_answers.specs.Holding.{Holding};
 ghost use Rattle.wallet_answers.specs.Listing.{Listing, Page, IsRefusedBy, page_of};
 
@@ -12,7 +14,7 @@ use std::alloc::Global;
 
 /// The admitted answers after the one that has the token `after`, or from the first on, in their order, as
 /// many as there are up to `count`, which is from 1 to 1,000. The fits are those that [`fit_table::fill`]
-/// gives for a wallet, which has at most 64 slots.
+/// gives.
 ///
 /// # Errors
 ///
@@ -26,10 +28,11 @@ pub fn page_after(
 ) -> Result<OptionPage, Error>
     requires some { 0 < count }
     requires few { count ≤ 1000 }
-    ensures page { (listing : Listing) (h : Holding) → IsHeldBy h query.now fits.now → IfOk result (λ p.
+    ensures page { (listing : Listing) (h : Holding) → AreFits query.now h fits.now → IfOk result (λ p.
         page_of listing query.now h (option_map (λ token. token.now) after.entry) count
         ≡ Ok (record { answers = p.answers; end = p.end })) }
-    ensures refused { (listing : Listing) (h : Holding) → IsHeldBy h query.now fits.now
+    ensures admitted { IfOk result (λ p. AllByRecursion (Admits query.now fits.now) p.answers) }
+    ensures refused { (listing : Listing) (h : Holding) → AreFits query.now h fits.now
         → IfErr result (λ error. IsRefusedBy
         (page_of listing query.now h (option_map (λ token. token.now) after.entry) count) error) }
 {

@@ -3,7 +3,8 @@ use Rattle.std.proofs.Common.{inr}
 use Rattle.admitted_answers.specs.Admits.{Admits}
 use Rattle.option_list.specs.Token.{entries_text, token_of}
 use Rattle.option_list.specs.Form.{IsEntry, IsEach, Reads}
-use Rattle.option_list.specs.Rules.{HasEntries, IsOfNoAnswer}
+use Rattle.option_list.specs.Rules.{HasEntries, HasSmallPicks, IsOfNoAnswer}
+use Rattle.option_list.proofs.Decided.{small_lists}
 use Rattle.option_list.specs.code.Entries.{entry_in, are_known, lists_named}
 use Rattle.option_list.proofs.Named.{nothing_read, unknown_read, answer_read, none_answers}
 use Rattle.option_list.proofs.read.read_token.Goals as goal
@@ -40,6 +41,18 @@ returns-then-branch-clause-back c =
     (c.in_ok-answer.ensures
     ∙ ap₂ (λ qs es. lists_named qs (map entry_in es))
     c.credentials-queries.ensures.value c.deref-2.ensures.value)
+
+pub returns-then-branch-clause-small : goal.returns-then-branch-clause-small
+returns-then-branch-clause-small c =
+    let q = c.args.query.now in
+    let has : HasEntries c.args.text.now (map entry_in c.in-Some.entries.items) =
+    subst (λ o. Reads (IsEach IsEntry) entries_text c.args.text.now
+    (option_map (λ v. map entry_in v.items) o))
+    c.in-Some.is c.in_ok-entries.ensures in
+    subst HasSmallPicks (sym (c.in_ok-answer.ensures
+    ∙ ap₂ (λ qs es. lists_named qs (map entry_in es))
+    c.credentials-queries.ensures.value c.deref-2.ensures.value))
+    (small_lists q.credentials (map entry_in c.in-Some.entries.items) has.0.1)
 
 read : (c : goal.After-drop-entries-2) → Admits c.args.query.now c.args.fits.now c.in_ok-answer.answer
     → token_of c.args.query.now c.in_ok-answer.answer ≡ c.args.text.now → ⊥
